@@ -1,0 +1,3 @@
+pub mod Lexical
+pub mod Front
+pub mod Spans
