@@ -1,0 +1,10 @@
+pub mod Choices
+pub mod Declared
+pub mod Enumerations
+pub mod Faults
+pub mod Kept
+pub mod Placed
+pub mod Sortings
+pub mod Structures
+pub mod Values
+pub mod Worlds

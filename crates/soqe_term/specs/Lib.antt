@@ -1,0 +1,15 @@
+pub mod Boxes
+pub mod World
+pub mod Value
+pub mod Occurs
+pub mod Finite
+pub mod Ranges
+pub mod Sorting
+pub mod Fits
+pub mod Declarations
+pub mod Structures
+pub mod Places
+pub mod Declares
+pub mod Stored
+pub mod Laws
+pub mod Samples

@@ -1,0 +1,38 @@
+//! Laws of the definitions: each is a clause of a function that does nothing.
+
+ghost use Rattle.std.specs.Prelude.{◌≡◌, true, false, [], ◌∷◌, Some, None, nat_lt};
+ghost use Rattle.soqe_term.specs.Value.{value};
+ghost use Rattle.soqe_term.specs.Finite.{every, some, product, place, entry};
+ghost use Rattle.soqe_term.specs.Ranges.{tabulated};
+ghost use Rattle.soqe_term.specs.Sorting.{sorted_term};
+ghost use Rattle.soqe_term.specs.Declarations.{sorting_of};
+ghost use Rattle.soqe_term.specs.Laws.{StructuresFit, ValuesStayInRange, RangeDecidesValues, TablesAreWhole, TablesGiveBack};
+ghost use Rattle.soqe_term.specs.Samples.{small_signature, small_world, x_term, twice};
+
+/// What a world that fits gives to well-sorted terms; the worlds of finite structures fit.
+pub fn worlds()
+    ensures structures { StructuresFit }
+    ensures in_range { ValuesStayInRange }
+    ensures range { RangeDecidesValues }
+{}
+
+/// Tables of truth values stand for tests at arguments in range.
+pub fn tables()
+    ensures whole { TablesAreWhole }
+    ensures given_back { TablesGiveBack }
+{}
+
+/// The definitions on small cases.
+pub fn samples()
+    ensures value { value small_world x_term ≡ 1 }
+    ensures applied { value small_world twice ≡ 0 }
+    ensures well_sorted { sorted_term (sorting_of small_signature) twice ≡ true }
+    ensures product { product (2 ∷ 3 ∷ []) ≡ 6 }
+    ensures place { place (2 ∷ 3 ∷ []) (1 ∷ 0 ∷ []) ≡ 3 }
+    ensures entry { entry (2 ∷ 3 ∷ []) (false ∷ false ∷ false ∷ true ∷ []) (1 ∷ 0 ∷ []) ≡ true }
+    ensures past_the_end { entry (2 ∷ 3 ∷ []) (false ∷ false ∷ false ∷ true ∷ []) (1 ∷ 1 ∷ []) ≡ false }
+    ensures every { every 3 (λ a. nat_lt a 3) ≡ true }
+    ensures not_every { every 4 (λ a. nat_lt a 3) ≡ false }
+    ensures none { some 0 (λ a. true) ≡ false }
+    ensures table { tabulated (2 ∷ []) (λ args. nat_lt 3 (place (4 ∷ 4 ∷ []) (1 ∷ args))) ≡ true ∷ true ∷ [] }
+{}

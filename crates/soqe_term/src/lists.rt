@@ -1,0 +1,157 @@
+//! Lists of sorts, of numbers, of variables and of the sorts of Skolem functions. Contracts see each as the list of its items.
+ghost use Rattle.std.specs.Prelude.{◌≡◌, ◌∷◌, [], ◌++◌, IfOk, OnOk, OnErr};
+
+use crate::{Mem, Var};
+use std::alloc::Global;
+use std::marker::Model;
+
+/// Sort numbers.
+#[derive(Debug, Drop)]
+pub struct Sorts {
+    items: Vec<u32>,
+}
+
+impl Model for Sorts {
+    ghost use Rattle.std.specs.Prelude.{List, ℕ};
+
+    ghost Value = { List ℕ };
+
+    ghost view = { λ s. s.items.items };
+}
+
+impl Sorts {
+    /// No sorts. It takes no memory.
+    pub fn new(alloc: Global) -> Sorts
+        ensures { result ≡ [] }
+    {
+        Sorts {
+            items: Vec::new(alloc),
+        }
+    }
+
+    pub fn from_vec(items: Vec<u32>) -> Sorts
+        ensures { result ≡ items.items }
+    {
+        Sorts { items }
+    }
+
+    pub fn as_slice(&self) -> &[u32]
+        ensures { result.now ≡ self.now }
+    {
+        self.items.as_slice()
+    }
+
+    pub fn push(&mut self, sort: u32) -> Mem<()>
+        ensures ok { OnOk result (self.new ≡ self.old ++ sort ∷ []) }
+        ensures err { OnErr result (self.new ≡ self.old) }
+    {
+        self.items.push(sort)?;
+        Ok(())
+    }
+
+    pub fn copy(&self, alloc: Global) -> Mem<Sorts>
+        ensures { IfOk result (λ copy. copy ≡ self.now) }
+    {
+        let items = Vec::from_slice(alloc, self.items.as_slice())?;
+        Ok(Sorts { items })
+    }
+}
+
+/// Numbers, of variables or of places.
+#[derive(Debug, Drop)]
+pub struct Nums {
+    items: Vec<u64>,
+}
+
+impl Model for Nums {
+    ghost use Rattle.std.specs.Prelude.{List, ℕ};
+
+    ghost Value = { List ℕ };
+
+    ghost view = { λ s. s.items.items };
+}
+
+impl Nums {
+    /// No numbers. It takes no memory.
+    pub fn new(alloc: Global) -> Nums
+        ensures { result ≡ [] }
+    {
+        Nums {
+            items: Vec::new(alloc),
+        }
+    }
+
+    pub fn from_vec(items: Vec<u64>) -> Nums
+        ensures { result ≡ items.items }
+    {
+        Nums { items }
+    }
+
+    pub fn as_slice(&self) -> &[u64]
+        ensures { result.now ≡ self.now }
+    {
+        self.items.as_slice()
+    }
+
+    pub fn push(&mut self, num: u64) -> Mem<()>
+        ensures ok { OnOk result (self.new ≡ self.old ++ num ∷ []) }
+        ensures err { OnErr result (self.new ≡ self.old) }
+    {
+        self.items.push(num)?;
+        Ok(())
+    }
+
+    pub fn copy(&self, alloc: Global) -> Mem<Nums>
+        ensures { IfOk result (λ copy. copy ≡ self.now) }
+    {
+        let items = Vec::from_slice(alloc, self.items.as_slice())?;
+        Ok(Nums { items })
+    }
+}
+
+/// Variables.
+#[derive(Debug, Drop)]
+pub struct Vars {
+    items: Vec<Var>,
+}
+
+impl Model for Vars {
+    ghost use Rattle.std.specs.Prelude.{List};
+    ghost use Rattle.soqe_term.specs.declared.term.Var.{Var};
+
+    ghost Value = { List Var };
+
+    ghost view = { λ s. s.items.items };
+}
+
+impl Vars {
+    /// No variables. It takes no memory.
+    pub fn new(alloc: Global) -> Vars
+        ensures { result ≡ [] }
+    {
+        Vars {
+            items: Vec::new(alloc),
+        }
+    }
+
+    pub fn as_slice(&self) -> &[Var]
+        ensures { result.now ≡ self.now }
+    {
+        self.items.as_slice()
+    }
+
+    pub fn push(&mut self, variable: Var) -> Mem<()>
+        ensures ok { OnOk result (self.new ≡ self.old ++ variable ∷ []) }
+        ensures err { OnErr result (self.new ≡ self.old) }
+    {
+        self.items.push(variable)?;
+        Ok(())
+    }
+
+    pub fn copy(&self, alloc: Global) -> Mem<Vars>
+        ensures { IfOk result (λ copy. copy ≡ self.now) }
+    {
+        let items = Vec::from_slice(alloc, self.items.as_slice())?;
+        Ok(Vars { items })
+    }
+}
