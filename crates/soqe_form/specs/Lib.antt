@@ -1,0 +1,10 @@
+pub mod Boxes
+pub mod Truth
+pub mod Free
+pub mod Sorted
+pub mod Alike
+pub mod Places
+pub mod Pure
+pub mod Found
+pub mod Laws
+pub mod Samples
