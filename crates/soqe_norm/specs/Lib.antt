@@ -1,0 +1,5 @@
+pub mod Signs
+pub mod Passes
+pub mod Valued
+pub mod Rises
+pub mod Laws

@@ -1,0 +1,234 @@
+//! Formulas written behind their parts: `p`, `q` and `d` are atoms of the bound predicates 0 and 1 and of the declared
+//! predicate 0, `t` and `f` are true and false; `~`, `&`, `|`, `>` and `=` join what stands before them; `a` and `e` bind
+//! a variable; `A` and `E` bind the predicate 0, `B` binds the predicate 1.
+use crate::signs::{first_signs, signs};
+use crate::valued::{value_for, valued};
+use soqe_form::make::{
+    conjunction, disjunction, equivalence, exists, exists_table, for_all, for_all_tables,
+    implication, negation,
+};
+use soqe_form::{Block, Form, PVar, Pred};
+use soqe_term::{Mem, Nums, Sorts, Terms, Var};
+use sqlite_items::Boxed;
+use std::alloc::Global;
+use std::test::Fail;
+
+const P: Pred = Pred::Bound(0);
+
+fn binder(alloc: Global, num: u64) -> PVar {
+    PVar {
+        num,
+        args: Sorts::new(alloc),
+    }
+}
+
+fn atom(alloc: Global, pred: Pred) -> Mem<Boxed<Form>> {
+    Boxed::new(alloc, Form::Atom(pred, Terms::Nil))
+}
+
+fn last(alloc: Global, stack: &mut Vec<Boxed<Form>>) -> Mem<Boxed<Form>> {
+    match stack.pop() {
+        Some(f) => Ok(f),
+        None => Boxed::new(alloc, Form::False),
+    }
+}
+
+fn joined(alloc: Global, sign: u8, f: Boxed<Form>, g: Boxed<Form>) -> Mem<Boxed<Form>> {
+    match sign {
+        b'&' => conjunction(alloc, f, g),
+        b'|' => disjunction(alloc, f, g),
+        b'>' => implication(alloc, f, g),
+        _ => equivalence(alloc, f, g),
+    }
+}
+
+fn bound(alloc: Global, sign: u8, f: Boxed<Form>) -> Mem<Boxed<Form>> {
+    let x = Var { num: 0, sort: 0 };
+    match sign {
+        b'a' => for_all(alloc, x, f),
+        b'e' => exists(alloc, x, f),
+        b'A' => for_all_tables(alloc, binder(alloc, 0), f),
+        b'B' => for_all_tables(alloc, binder(alloc, 1), f),
+        b'E' => exists_table(alloc, binder(alloc, 0), f),
+        _ => negation(alloc, f),
+    }
+}
+
+fn next(alloc: Global, sign: u8, stack: &mut Vec<Boxed<Form>>) -> Mem<Boxed<Form>> {
+    match sign {
+        b't' => Boxed::new(alloc, Form::True),
+        b'f' => Boxed::new(alloc, Form::False),
+        b'p' => atom(alloc, P),
+        b'q' => atom(alloc, Pred::Bound(1)),
+        b'd' => atom(alloc, Pred::Decl(0)),
+        b'&' | b'|' | b'>' | b'=' => {
+            let g = last(alloc, stack)?;
+            let f = last(alloc, stack)?;
+            joined(alloc, sign, f, g)
+        }
+        _ => {
+            let f = last(alloc, stack)?;
+            bound(alloc, sign, f)
+        }
+    }
+}
+
+fn made(alloc: Global, text: &[u8]) -> Mem<Boxed<Form>> {
+    let mut stack = Vec::new(alloc);
+    for sign in text {
+        let f = next(alloc, *sign, &mut stack)?;
+        stack.push(f)?;
+    }
+    last(alloc, &mut stack)
+}
+
+fn put(out: &mut Vec<u8>, sign: u8) -> Mem<()> {
+    out.push(sign)?;
+    Ok(())
+}
+
+fn show_pred(out: &mut Vec<u8>, pred: &Pred) -> Mem<()> {
+    put(
+        out,
+        match pred {
+            Pred::Decl(_) => b'd',
+            Pred::Bound(0) => b'p',
+            Pred::Bound(_) => b'q',
+        },
+    )
+}
+
+fn show(out: &mut Vec<u8>, form: &Form) -> Mem<()> {
+    match form {
+        Form::True => put(out, b't'),
+        Form::False => put(out, b'f'),
+        Form::Equal(_, _) => put(out, b'?'),
+        Form::Atom(p, _) => show_pred(out, p),
+        Form::Not(f) => {
+            show(out, f.get())?;
+            put(out, b'~')
+        }
+        Form::And(f, g) => {
+            show(out, f.get())?;
+            show(out, g.get())?;
+            put(out, b'&')
+        }
+        Form::Or(f, g) => {
+            show(out, f.get())?;
+            show(out, g.get())?;
+            put(out, b'|')
+        }
+        Form::Imp(f, g) => {
+            show(out, f.get())?;
+            show(out, g.get())?;
+            put(out, b'>')
+        }
+        Form::Iff(f, g) => {
+            show(out, f.get())?;
+            show(out, g.get())?;
+            put(out, b'=')
+        }
+        Form::All(_, f) => {
+            show(out, f.get())?;
+            put(out, b'a')
+        }
+        Form::Ex(_, f) => {
+            show(out, f.get())?;
+            put(out, b'e')
+        }
+        Form::All2(p, f) => {
+            show(out, f.get())?;
+            put(out, if p.num == 0 { b'A' } else { b'B' })
+        }
+        Form::Ex2(_, f) => {
+            show(out, f.get())?;
+            put(out, b'E')
+        }
+    }
+}
+
+#[test]
+fn finds_signs(rt: HostRuntime) -> Result<(), Fail> {
+    let alloc = rt.alloc();
+    // The formula, and the first places of the two signs of P.
+    let cases: [(&[u8], Option<u64>, Option<u64>); 16] = [
+        (b"t", None, None),
+        (b"qd&", None, None),
+        (b"p", Some(1), None),
+        (b"p~", None, Some(1)),
+        (b"p~~", Some(1), None),
+        (b"pp~&", Some(1), Some(2)),
+        (b"p~p|", Some(2), Some(1)),
+        (b"qpp>&", Some(2), Some(1)),
+        (b"pq>", None, Some(1)),
+        (b"qp>", Some(1), None),
+        (b"pq=", Some(1), Some(1)),
+        (b"qp~=", Some(1), Some(1)),
+        (b"ppp~ea&&", Some(1), Some(3)),
+        (b"pAp~&", None, Some(1)),
+        (b"pEp~BE|", None, None),
+        (b"pBp>", Some(2), Some(1)),
+    ];
+    for (text, pos, neg) in cases {
+        let f = made(alloc, text)?;
+        let first = first_signs(f.get(), &P);
+        assert_eq!(rt; first.pos, pos);
+        assert_eq!(rt; first.neg, neg);
+        let both = signs(f.get(), &P);
+        assert_eq!(rt; both.pos, pos.is_some());
+        assert_eq!(rt; both.neg, neg.is_some());
+    }
+    // A declared predicate is another one than the bound one of its number, and no binder hides it.
+    let f = made(alloc, b"dp~>A")?;
+    let first = first_signs(f.get(), &Pred::Decl(0));
+    assert_eq!(rt; first.pos, None);
+    assert_eq!(rt; first.neg, Some(1));
+    Ok(())
+}
+
+#[test]
+fn chooses_values(rt: HostRuntime) -> Result<(), Fail> {
+    let alloc = rt.alloc();
+    // The body, and the value below an existential and below a universal quantifier of P.
+    let cases: [(&[u8], Option<bool>, Option<bool>); 5] = [
+        (b"q", Some(true), Some(false)),
+        (b"pq&", Some(true), Some(false)),
+        (b"pq>", Some(false), Some(true)),
+        (b"pp>", None, None),
+        (b"pd=", None, None),
+    ];
+    for (text, below_exists, below_all) in cases {
+        for (exists, value) in [(true, below_exists), (false, below_all)] {
+            let block = Block {
+                place: Nums::new(alloc),
+                exists,
+                pred: binder(alloc, 0),
+                body: made(alloc, text)?,
+            };
+            assert_eq!(rt; value_for(&block), value);
+        }
+    }
+    Ok(())
+}
+
+#[test]
+fn replaces_atoms(rt: HostRuntime) -> Result<(), Fail> {
+    let alloc = rt.alloc();
+    // The formula, the value, and the result.
+    let cases: [(&[u8], bool, &[u8]); 6] = [
+        (b"p", true, b"t"),
+        (b"p", false, b"f"),
+        (b"qd&p|", true, b"qd&t|"),
+        (b"pp~>pt==", false, b"ff~>ft=="),
+        (b"pApBpE&pae||", true, b"pAtBpE&tae||"),
+        (b"pqB|A", false, b"pqB|A"),
+    ];
+    for (text, value, result) in cases {
+        let f = made(alloc, text)?;
+        let g = valued(alloc, f.get(), 0, value)?;
+        let mut out = Vec::new(alloc);
+        show(&mut out, g.get())?;
+        assert_eq!(rt; out.as_slice(), result);
+    }
+    Ok(())
+}
