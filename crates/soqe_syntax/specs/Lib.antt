@@ -1,0 +1,4 @@
+pub mod Grammar
+pub mod Pieces
+pub mod Shapes
+pub mod Productions

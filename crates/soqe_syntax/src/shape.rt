@@ -1,0 +1,128 @@
+//! Trees as the reader holds them. Contracts see them by `specs/Shapes.antt`.
+ghost use Rattle.std.specs.Prelude.{◌≡◌, ◌∷◌, [], ◌++◌, OnOk, OnErr};
+
+use crate::piece::{Operator, Quantifier, Span};
+use std::alloc::{AllocError, Global};
+use std::marker::Model;
+
+/// A term as it is written: a name, or a name with arguments.
+#[cycle(expr)]
+#[derive(Drop)]
+pub enum Expr {
+    Plain(Span),
+    Applied(Span, Box<Exprs>),
+}
+
+/// One argument or more, the last one last.
+#[cycle(expr)]
+#[derive(Drop)]
+pub enum Exprs {
+    One(Box<Expr>),
+    More(Box<Exprs>, Box<Expr>),
+}
+
+/// A formula as it is written.
+#[derive(Drop)]
+pub enum Shape {
+    Constant(bool),
+    Atom(Expr),
+    /// Whether it is negated, its sign, and its sides.
+    Equation(bool, Span, Expr, Expr),
+    Not(Box<Shape>),
+    /// A variable with its sort, where one is written.
+    Bind(Quantifier, Span, Option<Span>, Box<Shape>),
+    /// A predicate with its argument sorts.
+    Bind2(Quantifier, Span, Spans, Box<Shape>),
+    Binary(Operator, Box<Shape>, Box<Shape>),
+    Paren(Box<Shape>),
+}
+
+/// A declaration as it is written.
+#[derive(Drop)]
+pub enum Item {
+    Sort(Span),
+    /// A function with its argument sorts and the sort of its values.
+    Fun(Span, Spans, Span),
+    Pred(Span, Spans),
+    Var(Span, Span),
+}
+
+/// Parts of a text. Contracts see their list.
+#[derive(Debug, Drop)]
+pub struct Spans {
+    items: Vec<Span>,
+}
+
+impl Model for Spans {
+    ghost use Rattle.std.specs.Prelude.{List};
+    ghost use Rattle.soqe_syntax.specs.declared.piece.Span.{Span};
+
+    ghost Value = { List Span };
+
+    ghost view = { λ s. s.items.items };
+}
+
+impl Spans {
+    /// No parts. It takes no memory.
+    pub fn new(alloc: Global) -> Spans
+        ensures { result ≡ [] }
+    {
+        Spans {
+            items: Vec::new(alloc),
+        }
+    }
+
+    pub fn as_slice(&self) -> &[Span]
+        ensures { result.now ≡ self.now }
+    {
+        self.items.as_slice()
+    }
+
+    pub fn push(&mut self, span: Span) -> Result<(), AllocError>
+        ensures ok { OnOk result (self.new ≡ self.old ++ span ∷ []) }
+        ensures err { OnErr result (self.new ≡ self.old) }
+    {
+        self.items.push(span)?;
+        Ok(())
+    }
+}
+
+/// Declarations in the order of the text. Contracts see their list.
+#[derive(Drop)]
+pub struct Items {
+    items: Vec<Item>,
+}
+
+impl Model for Items {
+    ghost use Rattle.std.specs.Prelude.{List};
+    ghost use Rattle.soqe_syntax.specs.declared.shape.Item.{Item};
+
+    ghost Value = { List Item };
+
+    ghost view = { λ s. s.items.items };
+}
+
+impl Items {
+    /// No declarations. It takes no memory.
+    pub fn new(alloc: Global) -> Items
+        ensures { result ≡ [] }
+    {
+        Items {
+            items: Vec::new(alloc),
+        }
+    }
+
+    pub fn as_slice(&self) -> &[Item]
+        ensures { result.now ≡ self.now }
+    {
+        self.items.as_slice()
+    }
+
+    pub fn push(&mut self, item: Item) -> Result<(), AllocError>
+        ensures ok { OnOk result (self.new ≡ self.old ++ item ∷ []) }
+        ensures err { OnErr result (self.new ≡ self.old) }
+    {
+        self.items.push(item)?;
+        Ok(())
+    }
+}
