@@ -1,0 +1,11 @@
+pub mod FormulaComplete
+pub mod FormulaSound
+pub mod FormulaViable
+pub mod ProblemComplete
+pub mod ProblemSound
+pub mod ProblemViable
+pub mod Places
+pub mod Outcomes
+pub mod Stacks
+pub mod Staged
+pub mod Found

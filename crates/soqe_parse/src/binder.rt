@@ -1,0 +1,52 @@
+//! Binders of predicates: `all2 P(s, t).`, piece by piece.
+ghost use Rattle.std.specs.Prelude.{◌≡◌};
+ghost use Rattle.soqe_parse.specs.Machine.{step};
+ghost use Rattle.soqe_parse.specs.Stack.{IsBinder2, state_of, Gives};
+
+use crate::frame::{Frame, Mode, StepError};
+use crate::operand::pushed;
+use soqe_syntax::{Piece, Spans};
+use std::alloc::Global;
+
+/// A step inside a binder of a predicate.
+pub(crate) fn binder_stepped(
+    alloc: Global,
+    stack: &mut Vec<Frame>,
+    mode: Mode,
+    next: Piece,
+) -> Result<Mode, StepError>
+    requires { IsBinder2 mode }
+    ensures { Gives stack.new.items result (step (state_of stack.old.items mode) next) }
+{
+    match mode {
+        Mode::Quantified2(quantifier) => match next {
+            Piece::Name(name) => Ok(Mode::Named2(quantifier, name)),
+            _ => Err(StepError::Dead),
+        },
+        Mode::Named2(quantifier, name) => match next {
+            Piece::Dot => pushed(stack, Frame::InBind2(quantifier, name, Spans::new(alloc))),
+            Piece::Open => Ok(Mode::WantSort(quantifier, name, Spans::new(alloc))),
+            _ => Err(StepError::Dead),
+        },
+        Mode::WantSort(quantifier, name, sorts) => match next {
+            Piece::Name(sort) => {
+                let mut sorts = sorts;
+                match sorts.push(sort) {
+                    Ok(()) => Ok(Mode::HaveSort(quantifier, name, sorts)),
+                    Err(_) => Err(StepError::Memory),
+                }
+            }
+            _ => Err(StepError::Dead),
+        },
+        Mode::HaveSort(quantifier, name, sorts) => match next {
+            Piece::Comma => Ok(Mode::WantSort(quantifier, name, sorts)),
+            Piece::Close => Ok(Mode::Sorted2(quantifier, name, sorts)),
+            _ => Err(StepError::Dead),
+        },
+        Mode::Sorted2(quantifier, name, sorts) => match next {
+            Piece::Dot => pushed(stack, Frame::InBind2(quantifier, name, sorts)),
+            _ => Err(StepError::Dead),
+        },
+        _ => Err(StepError::Dead),
+    }
+}

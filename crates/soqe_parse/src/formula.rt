@@ -1,0 +1,77 @@
+//! Reading a formula piece by piece.
+ghost use Rattle.std.specs.Prelude.{◌≡◌};
+ghost use Rattle.soqe_parse.specs.Machine.{Want, step};
+ghost use Rattle.soqe_parse.specs.Stack.{stack_of, state_of, Gives};
+
+use crate::binder::binder_stepped;
+use crate::frame::{Frame, Mode, StepError};
+use crate::operand::{operated, pushed, shut};
+use crate::term::{closed, comma_read, equated, opened, signed};
+use soqe_syntax::{Expr, Piece, Shape};
+use std::alloc::Global;
+
+/// The state after one more piece.
+#[tactic(auto, using(crate::proofs::Stacks::calls_none))]
+pub(crate) fn stepped(
+    alloc: Global,
+    stack: &mut Vec<Frame>,
+    mode: Mode,
+    next: Piece,
+) -> Result<Mode, StepError>
+    ensures { Gives stack.new.items result (step (state_of stack.old.items mode) next) }
+{
+    match mode {
+        Mode::Want => begun(alloc, stack, next),
+        Mode::Have(shape) => match next {
+            Piece::Sign(op) => operated(alloc, stack, shape, op),
+            Piece::Close => shut(alloc, stack, shape),
+            _ => Err(StepError::Dead),
+        },
+        Mode::Quantified(quantifier) => match next {
+            Piece::Name(name) => Ok(Mode::Named(quantifier, name)),
+            _ => Err(StepError::Dead),
+        },
+        Mode::Named(quantifier, name) => match next {
+            Piece::Dot => pushed(stack, Frame::InBind(quantifier, name, None)),
+            Piece::Colon => Ok(Mode::Sorting(quantifier, name)),
+            _ => Err(StepError::Dead),
+        },
+        Mode::Sorting(quantifier, name) => match next {
+            Piece::Name(sort) => Ok(Mode::Sorted(quantifier, name, sort)),
+            _ => Err(StepError::Dead),
+        },
+        Mode::Sorted(quantifier, name, sort) => match next {
+            Piece::Dot => pushed(stack, Frame::InBind(quantifier, name, Some(sort))),
+            _ => Err(StepError::Dead),
+        },
+        Mode::WantTerm(side, calls) => match next {
+            Piece::Name(name) => Ok(Mode::HaveTerm(side, calls, Expr::Plain(name))),
+            _ => Err(StepError::Dead),
+        },
+        Mode::HaveTerm(side, calls, term) => match next {
+            Piece::Open => opened(stack, side, calls, term),
+            Piece::Comma => comma_read(alloc, stack, side, calls, term),
+            Piece::Close => closed(alloc, stack, side, calls, term),
+            Piece::Equals(negated, sign) => equated(alloc, stack, side, calls, term, negated, sign),
+            Piece::Sign(op) => signed(alloc, stack, side, calls, term, op),
+            _ => Err(StepError::Dead),
+        },
+        _ => binder_stepped(alloc, stack, mode, next),
+    }
+}
+
+/// A piece where an operand is wanted.
+#[tactic(auto, using(crate::proofs::Stacks::calls_none))]
+fn begun(alloc: Global, stack: &mut Vec<Frame>, next: Piece) -> Result<Mode, StepError>
+    ensures { Gives stack.new.items result (step (Want (stack_of stack.old.items)) next) }
+{
+    match next {
+        Piece::Constant(value) => Ok(Mode::Have(Shape::Constant(value))),
+        Piece::Name(name) => Ok(Mode::HaveTerm(None, Vec::new(alloc), Expr::Plain(name))),
+        Piece::Open => pushed(stack, Frame::InParen),
+        Piece::Tilde => pushed(stack, Frame::InNot),
+        Piece::Binder(quantifier) => Ok(Mode::Quantified(quantifier)),
+        Piece::Binder2(quantifier) => Ok(Mode::Quantified2(quantifier)),
+        _ => Err(StepError::Dead),
+    }
+}
