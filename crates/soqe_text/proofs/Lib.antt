@@ -1,0 +1,6 @@
+mod Names
+mod OneSmall
+mod Readings
+mod Scopes
+pub mod SmallSorted
+mod Sortedness

@@ -1,0 +1,29 @@
+//! Problems, with numbers for names.
+ghost use Rattle.std.specs.Prelude.{◌≡◌, IfOk};
+
+use soqe_form::Form;
+use soqe_term::{Mem, Signature};
+use std::alloc::Global;
+
+/// A problem of the suite.
+#[derive(Drop)]
+pub enum Problem {
+    /// Elimination of the quantified predicates of the goal. The signature has the declarations in order, and behind
+    /// them the names of the goal's bound variables and predicates in the order of their first binders.
+    Elim { sig: Signature, goal: Form },
+}
+
+impl Problem {
+    /// A problem that equals this one.
+    pub fn copy(&self, alloc: Global) -> Mem<Problem>
+        ensures { IfOk result (λ copy. copy ≡ self.now) }
+    {
+        match self {
+            Problem::Elim { sig, goal } => {
+                let sig = sig.copy(alloc)?;
+                let goal = goal.copy(alloc)?;
+                Ok(Problem::Elim { sig, goal })
+            }
+        }
+    }
+}
