@@ -1,0 +1,4 @@
+pub mod Written
+pub mod Arguments
+pub mod Negations
+pub mod Declared

@@ -1,0 +1,3 @@
+pub mod Dress
+pub mod Printed
+pub mod Lines

@@ -1,0 +1,20 @@
+//! The printer: the one spelling of terms, formulas and problems.
+//!
+//! `specs/Dress.antt` makes the tree that is printed: names for numbers, and parentheses exactly where an operand is
+//! looser than its place. `specs/Printed.antt` writes a tree. `specs/Lines.antt` has the same texts in the order in
+//! which the code writes them.
+#![tactic(auto)]
+
+mod formulas;
+mod names;
+mod problems;
+mod show;
+mod terms;
+#[cfg(test)]
+mod tests;
+
+pub use formulas::write_form;
+pub use names::{write_number, write_pred};
+pub use problems::write_problem;
+pub use show::{show_form, show_problem, show_term};
+pub use terms::write_term;

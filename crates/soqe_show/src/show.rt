@@ -1,0 +1,39 @@
+//! Printed texts as values. Each function fails where memory runs out.
+ghost use Rattle.std.specs.Prelude.{◌≡◌, string_bytes, IfOk};
+ghost use Rattle.soqe_show.specs.Dress.{dress_term, form_text, problem_text};
+ghost use Rattle.soqe_show.specs.Printed.{term_text};
+
+use crate::formulas::write_form;
+use crate::problems::write_problem;
+use crate::terms::write_term;
+use soqe_form::Form;
+use soqe_term::{Mem, Signature, Term};
+use soqe_text::Problem;
+use std::alloc::Global;
+
+/// The printed text of a term.
+pub fn show_term(alloc: Global, sig: &Signature, term: &Term) -> Mem<String>
+    ensures { IfOk result (λ text. string_bytes text ≡ term_text (dress_term sig.now term.now)) }
+{
+    let mut text = String::new(alloc);
+    write_term(&mut text, sig, term)?;
+    Ok(text)
+}
+
+/// The printed text of a formula.
+pub fn show_form(alloc: Global, sig: &Signature, form: &Form) -> Mem<String>
+    ensures { IfOk result (λ text. string_bytes text ≡ form_text sig.now form.now) }
+{
+    let mut text = String::new(alloc);
+    write_form(&mut text, sig, form)?;
+    Ok(text)
+}
+
+/// The printed text of a problem, each declaration and the goal on a line.
+pub fn show_problem(alloc: Global, problem: &Problem) -> Mem<String>
+    ensures { IfOk result (λ text. string_bytes text ≡ problem_text problem.now) }
+{
+    let mut text = String::new(alloc);
+    write_problem(&mut text, problem)?;
+    Ok(text)
+}
