@@ -1,0 +1,256 @@
+-- An accepted document's result answers its problem.
+--
+-- Walk along the rows and keep two facts. The formula that stands is well sorted, and has the goal's truth in every world
+-- that fits the declarations. And where a block is open, it is the first one of the formula that stands, and what its lines
+-- have come to has the truth of the quantified formula in every world that fits the names in scope at its place. The row
+-- `replace` gives the second fact, by the law of signs; the row `close` takes it back to the first, since a part replaced by
+-- one of equal truth in its scope keeps the truth of the whole. At a result no quantified predicate is left, and a
+-- well-sorted formula uses known names alone, so it is pure. A structure that fits gives a world that fits.
+use Rattle.std.proofs.Common.{◌≡◌, Bool, true, false, List, [], ◌∷◌, ◌++◌, Option, Some, None, refl, sym, ◌∙◌, ap, subst}
+use Rattle.std.specs.Option.{is_some}
+use Rattle.soqe_term.specs.Sorting.{Sorting}
+use Rattle.soqe_term.specs.Declarations.{sorting_of}
+use Rattle.soqe_term.specs.Structures.{world_of}
+use Rattle.soqe_term.proofs.Structures.{fits-world}
+use Rattle.soqe_form.specs.declared.form.Form.{Form}
+use Rattle.soqe_form.specs.declared.form.Block.{Block}
+use Rattle.soqe_form.specs.Sorted.{sorted}
+use Rattle.soqe_form.specs.Alike.{AlikeIn}
+use Rattle.soqe_form.specs.Places.{first_block, part_at, put_at, scope_at, quantified, has_blocks}
+use Rattle.soqe_form.proofs.Places.{truth-put_at, sorted-part, sorted-put_at}
+use Rattle.soqe_form.proofs.FirstBlocks.{block-stands, some-first_block}
+use Rattle.soqe_norm.specs.Valued.{valued, value_for}
+use Rattle.soqe_norm.proofs.Blocks.{replaces-block, stays-sorted}
+use Rattle.soqe_text.specs.declared.problem.Problem.{Problem}
+use Rattle.soqe_text.specs.declared.problem.Problem.TheVariants as problem
+use Rattle.soqe_deriv.specs.declared.document.Method.{Method}
+use Rattle.soqe_deriv.specs.declared.document.Method.TheVariants as method
+use Rattle.soqe_deriv.specs.declared.document.Line.{Line}
+use Rattle.soqe_deriv.specs.declared.document.Document.{Document}
+use Rattle.soqe_deriv.specs.Text.{declared_of}
+use Rattle.soqe_text.specs.Sorted.{IsSorted}
+use Rattle.soqe_deriv.specs.Valid.{Row, First, Posed, Further, Phase, Fresh, Running, Answered, Halted, Accepted, Ended, Opened, State, start_state, goal_of, opened, outcome, Step, first, posed, start, block, replace, close, result, mixed, end_answered, end_halted, Reach, none, more, further}
+use Rattle.soqe_deriv.specs.Sound.{IsSound}
+use Rattle.soqe_form.proofs.Pures.{first-order, free-known}
+
+some-is : {A : Type 0} {a b : A} → Some a ≡ Some b → a ≡ b
+some-is e = cc
+
+none-some : {A B : Type 0} {o : Option A} {a : A} → o ≡ None → o ≡ Some a → B
+none-some {o = o} {a = a} n e = let h : None ≡ Some a = sym n ∙ e in cc
+
+one_of : {A : Type 0} {o : Option A} {a b : A} → o ≡ Some a → o ≡ Some b → a ≡ b
+one_of e h = some-is (sym e ∙ h)
+
+-- what a problem's declarations make known
+abbrev known : Problem → Sorting
+known p = sorting_of (declared_of p)
+
+-- the formula is well sorted, and has the truth of the problem's goal
+record Holds (p : Problem) (f : Form) : Type 0 where
+  well : sorted (known p) f ≡ true
+  alike : AlikeIn (known p) f (goal_of p)
+
+-- there is a problem, and the formula has the truth of its goal
+record Answers (o : Option Problem) (f : Form) : Type 0 where
+  problem : Problem
+  is : o ≡ Some problem
+  holds : Holds problem f
+
+-- what a block's lines have come to is well sorted in the scope of its place, and has the truth of the block there
+record Comes (e : Sorting) (b : Block) (r : Form) : Type 0 where
+  well : sorted e r ≡ true
+  alike : AlikeIn e r (quantified b)
+
+-- the open block is the first one of the formula that stands
+record IsOpen (q : Option Problem) (f : Option Form) (o : Opened) : Type 0 where
+  problem : Problem
+  posed_is : q ≡ Some problem
+  formula : Form
+  is : f ≡ Some formula
+  first : first_block formula ≡ Some o.block
+  work : (r : Form) → outcome o.work ≡ Some r → Comes (scope_at o.block.place formula (known problem)) o.block r
+
+-- a result was written
+abbrev IsDone : Phase → Type 0
+IsDone Fresh = ⊥
+IsDone Running = ⊥
+IsDone Answered = Unit {0}
+IsDone Halted = ⊥
+IsDone Accepted = Unit {0}
+IsDone Ended = ⊥
+
+record Good (s : State) : Type 0 where
+  posed_well : (p : Problem) → s.problem ≡ Some p → IsSorted p
+  formula : (f : Form) → s.formula ≡ Some f → Answers s.problem f
+  block : (o : Opened) → s.block ≡ Some o → IsOpen s.problem s.formula o
+  done : IsDone s.phase → (f : Form) → s.formula ≡ Some f → first_block f ≡ None
+
+goal-sorted : (p : Problem) → IsSorted p → sorted (known p) (goal_of p) ≡ true
+goal-sorted (problem.Elim ds goal) h = h
+
+not-done : {A : Type 0} (s : State) → s.phase ≡ Running → IsDone s.phase → A
+not-done s h d = absurd (subst IsDone h d)
+
+unworked : (m : Method) (b : Block) (r : Form) (A : Type 0) → outcome (opened m b).work ≡ Some r → A
+unworked method.Sign b r A e = let n : None ≡ Some r = e in cc
+
+its-block : (m : Method) (b : Block) → (opened m b).block ≡ b
+its-block method.Sign b = refl
+
+-- a first block stands at its place
+stands : (f : Form) (b : Block) → first_block f ≡ Some b → part_at b.place f ≡ Some (quantified b)
+stands f b e = block-stands f b e
+
+put-holds : (p : Problem) (f : Form) (b : Block) (r : Form) → first_block f ≡ Some b → Holds p f → Comes (scope_at b.place f (known p)) b r → Holds p (put_at b.place r f)
+put-holds p f b r e h c = record {
+  well = sorted-put_at b.place f (quantified b) r (stands f b e) (known p) c.well h.well;
+  alike = λ w k. truth-put_at b.place f (quantified b) r (stands f b e) (known p) c.alike w k ∙ h.alike w k;
+}
+
+value-comes : (p : Problem) (f : Form) (b : Block) (v : Bool) → first_block f ≡ Some b → Holds p f → value_for b ≡ Some v → Comes (scope_at b.place f (known p)) b (valued b.pred.num v b.body)
+value-comes p f b v e h q =
+    let in_scope : sorted (scope_at b.place f (known p)) (quantified b) ≡ true = sorted-part b.place f (quantified b) (stands f b e) (known p) h.well in
+    record { well = stays-sorted (scope_at b.place f (known p)) b v in_scope; alike = replaces-block (scope_at b.place f (known p)) b v q in_scope }
+
+module _ (s : State) (good : Good s) where
+  keeps : {r : Row} {t : State} → Step s r t → Good t
+  keeps (first h) = record { posed_well = good.posed_well; formula = good.formula; block = good.block; done = λ d. absurd d }
+  keeps (posed {p = p} h n k) = record {
+    posed_well = λ q e. subst IsSorted (some-is e) k;
+    formula = λ f e. none-some n (good.formula f e).is;
+    block = λ o e. none-some n (good.block o e).posed_is;
+    done = good.done;
+  }
+  keeps (start {f = f} {p = p} h q n k) = record {
+    posed_well = good.posed_well;
+    formula = λ x e. record {
+      problem = p;
+      is = q;
+      holds = subst (Holds p) (sym k ∙ some-is e) (record { well = goal-sorted p (good.posed_well p q); alike = λ w k. refl });
+    };
+    block = λ o e. none-some n (good.block o e).is;
+    done = λ d. not-done s h d;
+  }
+  keeps (block {m = m} {f = f} {b = b} h q n k) = record {
+    posed_well = good.posed_well;
+    formula = good.formula;
+    block = λ o e. subst (IsOpen s.problem s.formula) (some-is e) (let a = good.formula f q in record {
+      problem = a.problem;
+      posed_is = a.is;
+      formula = f;
+      is = q;
+      first = k ∙ ap Some (sym (its-block m b));
+      work = λ r u. unworked m b r (Comes (scope_at (opened m b).block.place f (known a.problem)) (opened m b).block r) u;
+    });
+    done = λ d. not-done s h d;
+  }
+  keeps (replace {v = v} {f = f} {b = b} h q k e) = record {
+    posed_well = good.posed_well;
+    formula = good.formula;
+    block = λ o u. subst (IsOpen s.problem s.formula) (some-is u) (let a = good.block (opened method.Sign b) q in
+        let g = good.formula a.formula a.is in
+        record {
+          problem = g.problem;
+          posed_is = g.is;
+          formula = a.formula;
+          is = a.is;
+          first = a.first;
+          work = λ r c. subst (Comes (scope_at b.place a.formula (known g.problem)) b) (sym e ∙ some-is c) (value-comes g.problem a.formula b v a.first g.holds k);
+        });
+    done = λ d. not-done s h d;
+  }
+  keeps (close {f = f} {g = g} {r = r} {o = o} h q k u e) =
+      let a = good.block o k in
+      let c = good.formula a.formula a.is in
+      let same : a.formula ≡ g = one_of a.is q in
+      let one : a.problem ≡ c.problem = one_of a.posed_is c.is in
+      let comes : Comes (scope_at o.block.place a.formula (known c.problem)) o.block f =
+      subst (λ p. Comes (scope_at o.block.place a.formula (known p)) o.block f) one (subst (Comes (scope_at o.block.place a.formula (known a.problem)) o.block) (sym e) (a.work r u)) in
+      record {
+        posed_well = good.posed_well;
+        formula = λ x d. record {
+          problem = c.problem;
+          is = c.is;
+          holds = subst (Holds c.problem) (ap (put_at o.block.place f) same ∙ some-is d) (put-holds c.problem a.formula o.block f a.first c.holds comes);
+        };
+        block = λ p d. none-some refl d;
+        done = λ d. not-done s h d;
+      }
+  keeps (result {f = f} {g = g} h q n k e) = record {
+    posed_well = good.posed_well;
+    formula = λ x d. subst (Answers s.problem) (sym e ∙ some-is d) (good.formula g q);
+    block = λ o d. none-some n d;
+    done = λ d x u. subst (λ y. first_block y ≡ None) (sym e ∙ some-is u) k;
+  }
+  keeps (mixed h q i j) = record { posed_well = good.posed_well; formula = good.formula; block = good.block; done = λ d. absurd d }
+  keeps (end_answered h) = record {
+    posed_well = good.posed_well;
+    formula = good.formula;
+    block = good.block;
+    done = λ d f e. good.done (subst IsDone (sym h) tt) f e;
+  }
+  keeps (end_halted h) = record { posed_well = good.posed_well; formula = good.formula; block = good.block; done = λ d. absurd d }
+
+good-start : Good start_state
+good-start = record {
+  posed_well = λ p e. none-some refl e;
+  formula = λ f e. none-some refl e;
+  block = λ o e. none-some refl e;
+  done = λ d. absurd d;
+}
+
+good-reached : {rs : List Row} {t : State} → Reach start_state rs t → Good t
+good-reached none = good-start
+good-reached (more {t = t} r k) = keeps t (good-reached r) k
+
+-- the problem that is posed last
+abbrev posed_after : Option Problem → List Row → Option Problem
+posed_after o [] = o
+posed_after o (First ∷ rs) = posed_after o rs
+posed_after o (Posed p ∷ rs) = posed_after (Some p) rs
+posed_after o (Further l ∷ rs) = posed_after o rs
+
+posed_after-append : (o : Option Problem) (rs qs : List Row) → posed_after o (rs ++ qs) ≡ posed_after (posed_after o rs) qs
+posed_after-append o [] qs = refl
+posed_after-append o (First ∷ rs) qs = posed_after-append o rs qs
+posed_after-append o (Posed p ∷ rs) qs = posed_after-append (Some p) rs qs
+posed_after-append o (Further l ∷ rs) qs = posed_after-append o rs qs
+
+posed_after-further : (o : Option Problem) (ls : List Line) → posed_after o (further ls) ≡ o
+posed_after-further o [] = refl
+posed_after-further o (l ∷ ls) = posed_after-further o ls
+
+step-posed : {s t : State} {r : Row} → Step s r t → t.problem ≡ posed_after s.problem (r ∷ [])
+step-posed (first h) = refl
+step-posed (posed h n k) = refl
+step-posed (start h q n k) = refl
+step-posed (block h q n k) = refl
+step-posed (replace h q k e) = refl
+step-posed (close h q k u e) = refl
+step-posed (result h q n k e) = refl
+step-posed (mixed h q i j) = refl
+step-posed (end_answered h) = refl
+step-posed (end_halted h) = refl
+
+reach-posed : {rs : List Row} {t : State} → Reach start_state rs t → t.problem ≡ posed_after None rs
+reach-posed none = refl
+reach-posed (more {rs = rs} {r = r} k h) = step-posed h ∙ ap (λ o. posed_after o (r ∷ [])) (reach-posed k) ∙ sym (posed_after-append None rs (r ∷ []))
+
+no-blocks : (f : Form) → first_block f ≡ None → has_blocks f ≡ false
+no-blocks f e = sym (some-first_block f) ∙ ap is_some e
+
+pub accepted_sound : (d : Document) → IsSound d
+accepted_sound d f a =
+    let good = good-reached a.reach in
+    let answers = good.formula f a.formula in
+    let posed_is : a.last.problem ≡ Some d.problem = reach-posed a.reach ∙ posed_after-further (Some d.problem) d.lines in
+    let holds : Holds d.problem f = subst (λ p. Holds p f) (one_of answers.is posed_is) answers.holds in
+    let bare : first_block f ≡ None = good.done (subst IsDone (sym a.accepted) tt) f a.formula in
+    record {
+      pure = record {
+        first_order = first-order f (known d.problem) (record { skolem = λ n. refl; bound = λ n. refl }) holds.well (no-blocks f bare);
+        closed = λ n o. free-known n f (known d.problem) holds.well o;
+      };
+      same = λ m s h k. holds.alike (world_of (declared_of d.problem) m s) (fits-world (declared_of d.problem) m s h k);
+    }

@@ -1,0 +1,119 @@
+-- When a line of a document is valid, and what stands then.
+use Rattle.std.specs.Prelude.{◌≡◌, ℕ, Bool, true, List, [], ◌∷◌, ◌++◌, Option, Some, None}
+use Rattle.soqe_term.specs.Declarations.{sorting_of}
+use Rattle.soqe_form.specs.declared.form.Form.{Form}
+use Rattle.soqe_form.specs.declared.form.Pred.TheVariants.{Bound}
+use Rattle.soqe_form.specs.declared.form.Block.{Block}
+use Rattle.soqe_form.specs.Sorted.{sorted}
+use Rattle.soqe_form.specs.Places.{first_block, put_at}
+use Rattle.soqe_norm.specs.Valued.{valued, value_for, first_pos, first_neg}
+use Rattle.soqe_text.specs.Sorted.{IsSorted}
+use Rattle.soqe_text.specs.declared.problem.Problem.{Problem}
+use Rattle.soqe_text.specs.declared.problem.Problem.TheVariants as problem
+use Rattle.soqe_deriv.specs.declared.document.Method.{Method}
+use Rattle.soqe_deriv.specs.declared.document.Method.TheVariants as method
+use Rattle.soqe_deriv.specs.declared.document.Stop.TheVariants as stop
+use Rattle.soqe_deriv.specs.declared.document.Line.{Line}
+use Rattle.soqe_deriv.specs.declared.document.Line.TheVariants as line
+use Rattle.soqe_deriv.specs.declared.document.Document.{Document}
+
+-- a document's rows: its first line, its problem, and its other lines
+pub data Row : Type 0 where
+  First : Row
+  Posed : Problem → Row
+  Further : Line → Row
+
+-- how far a document is: nothing stands, it goes on, a result or a stop was written, or its last line
+pub data Phase : Type 0 where
+  Fresh : Phase
+  Running : Phase
+  Answered : Phase
+  Halted : Phase
+  Accepted : Phase
+  Ended : Phase
+
+-- what the lines of an open block have come to
+pub data Work : Type 0 where
+  -- a block by its sign, with the formula of its `replace` line
+  Sign : Option Form → Work
+
+-- an open block
+pub record Opened : Type 0 where
+  pub block : Block
+  pub work : Work
+
+-- what stands after some rows: the phase, the problem, the formula that the derivation has come to, and the open block
+pub record State : Type 0 where
+  pub phase : Phase
+  pub problem : Option Problem
+  pub formula : Option Form
+  pub block : Option Opened
+
+-- nothing stands before the first line
+abbrev pub start_state : State
+start_state = record { phase = Fresh; problem = None; formula = None; block = None }
+
+-- the goal that a problem poses
+abbrev pub goal_of : Problem → Form
+goal_of (problem.Elim ds goal) = goal
+
+-- a block as its opening line leaves it
+abbrev pub opened : Method → Block → Opened
+opened method.Sign b = record { block = b; work = Sign None }
+
+-- the formula that a block's lines have come to
+abbrev pub outcome : Work → Option Form
+outcome (Sign f) = f
+
+-- Simplified formulas. No row simplifies anything yet.
+abbrev pub simplified : Form → Form
+simplified f = f
+
+-- In the state s the row is valid, and the last state stands then: one case for each kind of row.
+pub data Step (s : State) : Row → State → Type 0 where
+  first : s.phase ≡ Fresh → Step s First (record s { phase = Running })
+  posed : {p : Problem} → s.phase ≡ Running → s.problem ≡ None → IsSorted p → Step s (Posed p) (record s { problem = Some p })
+  start : {f : Form} {p : Problem} → s.phase ≡ Running → s.problem ≡ Some p → s.formula ≡ None → f ≡ simplified (goal_of p)
+      → Step s (Further (line.Start f)) (record s { formula = Some f })
+  block : {m : Method} {f : Form} {b : Block} → s.phase ≡ Running → s.formula ≡ Some f → s.block ≡ None → first_block f ≡ Some b
+      → Step s (Further (line.Block m (Bound b.pred.num))) (record s { block = Some (opened m b) })
+  replace : {v : Bool} {f : Form} {b : Block} → s.phase ≡ Running → s.block ≡ Some (opened method.Sign b)
+      → value_for b ≡ Some v → f ≡ valued b.pred.num v b.body
+      → Step s (Further (line.Replace v f)) (record s { block = Some (record { block = b; work = Sign (Some f) }) })
+  close : {f g r : Form} {o : Opened} → s.phase ≡ Running → s.formula ≡ Some g → s.block ≡ Some o → outcome o.work ≡ Some r
+      → f ≡ simplified r
+      → Step s (Further (line.Close f)) (record s { formula = Some (simplified (put_at o.block.place f g)); block = None })
+  result : {f g : Form} → s.phase ≡ Running → s.formula ≡ Some g → s.block ≡ None → first_block g ≡ None → f ≡ g
+      → Step s (Further (line.Result f)) (record s { phase = Answered; formula = Some f })
+  mixed : {i j : ℕ} {b : Block} → s.phase ≡ Running → s.block ≡ Some (opened method.Sign b)
+      → first_pos (Bound b.pred.num) b.body ≡ Some i → first_neg (Bound b.pred.num) b.body ≡ Some j
+      → Step s (Further (line.Stopped (stop.Mixed i j))) (record s { phase = Halted })
+  end_answered : s.phase ≡ Answered → Step s (Further line.End) (record s { phase = Accepted })
+  end_halted : s.phase ≡ Halted → Step s (Further line.End) (record s { phase = Ended })
+
+-- from one state to another, the rows are valid one after another
+pub data Reach (s : State) : List Row → State → Type 0 where
+  none : Reach s [] s
+  more : {rs : List Row} {r : Row} {t u : State} → Reach s rs t → Step t r u → Reach s (rs ++ r ∷ []) u
+
+-- the rows of further lines
+abbrev pub further : List Line → List Row
+further [] = []
+further (l ∷ ls) = Further l ∷ further ls
+
+-- the rows of a document
+abbrev pub rows_of : Document → List Row
+rows_of d = First ∷ Posed d.problem ∷ further d.lines
+
+-- A document is valid, and ends with this result.
+pub record IsAccepted (d : Document) (f : Form) : Type 0 where
+  pub last : State
+  pub reach : Reach start_state (rows_of d) last
+  pub accepted : last.phase ≡ Accepted
+  pub formula : last.formula ≡ Some f
+
+-- A document is valid, and ends with a stop.
+pub record IsHalted (d : Document) : Type 0 where
+  pub last : State
+  pub reach : Reach start_state (rows_of d) last
+  pub halted : last.phase ≡ Ended

@@ -1,0 +1,91 @@
+//! Documents and their lines.
+ghost use Rattle.std.specs.Prelude.{◌≡◌, ◌∷◌, [], ◌++◌, OnOk, OnErr};
+
+use soqe_form::{Form, Pred};
+use soqe_term::Mem;
+use soqe_text::Problem;
+use sqlite_items::Boxed;
+use std::alloc::Global;
+use std::marker::Model;
+
+/// How a block's predicate is eliminated.
+#[derive(Clone, Copy, Debug, PartialEq, Eq)]
+pub enum Method {
+    /// By a truth value, where the predicate occurs with one sign alone.
+    Sign,
+}
+
+/// Why a derivation stopped.
+#[derive(Clone, Copy, Debug, PartialEq, Eq)]
+pub enum Stop {
+    /// The block's predicate occurs with both signs: the first atom with a positive occurrence and the first with a
+    /// negative one, counted from 1.
+    Mixed { pos: u64, neg: u64 },
+}
+
+/// A line behind the lines of the problem.
+#[derive(Drop)]
+pub enum Line {
+    /// The formula that the derivation starts with.
+    Start(Boxed<Form>),
+    /// The first block of what stands is opened.
+    Block { method: Method, pred: Pred },
+    /// The block's predicate is replaced by a truth value.
+    Replace { value: bool, form: Boxed<Form> },
+    /// The block's formula takes its place.
+    Close(Boxed<Form>),
+    Result(Boxed<Form>),
+    Stopped(Stop),
+    End,
+}
+
+/// Lines, in order. Contracts see their list.
+#[derive(Drop)]
+pub struct Lines {
+    items: Vec<Line>,
+}
+
+impl Model for Lines {
+    ghost use Rattle.std.specs.Prelude.{List};
+    ghost use Rattle.std.specs.Coded.{codes};
+    ghost use Rattle.soqe_form.specs.contracts.form.Form as form;
+    ghost use Rattle.soqe_deriv.specs.declared.document.Line.{Line};
+
+    ghost Value = { List Line };
+
+    ghost coded = { Prim.hlevel (codes, form.the_row.coded) };
+
+    ghost view = { λ s. s.items.items };
+}
+
+impl Lines {
+    /// No lines. It takes no memory.
+    pub fn new(alloc: Global) -> Lines
+        ensures { result ≡ [] }
+    {
+        Lines {
+            items: Vec::new(alloc),
+        }
+    }
+
+    pub fn as_slice(&self) -> &[Line]
+        ensures { result.now ≡ self.now }
+    {
+        self.items.as_slice()
+    }
+
+    pub fn push(&mut self, line: Line) -> Mem<()>
+        ensures ok { OnOk result (self.new ≡ self.old ++ line ∷ []) }
+        ensures err { OnErr result (self.new ≡ self.old) }
+    {
+        self.items.push(line)?;
+        Ok(())
+    }
+}
+
+/// A derivation: the problem, and the lines behind its own.
+#[derive(Drop)]
+pub struct Document {
+    pub problem: Problem,
+    pub lines: Lines,
+}
