@@ -1,0 +1,8 @@
+use Rattle.soqe_flow.proofs.Marked.{some-pos, some-neg}
+use Rattle.soqe_flow.proofs.derivation.mixed.Goals as goal
+
+pub exact-requires : goal.exact-requires
+exact-requires c = some-pos c.args.block.now c.get.result.now c.first_signs-first.result.pos c.requires c.first_signs-first.ensures.pos c.get.ensures
+
+pub exact-requires-2 : goal.exact-requires-2
+exact-requires-2 c = some-neg c.args.block.now c.get.result.now c.first_signs-first.result.neg c.requires c.first_signs-first.ensures.neg c.get.ensures

@@ -1,0 +1,62 @@
+-- The document that is written for a problem: block by block, the first block of what stands each time.
+use Rattle.std.specs.Prelude.{◌≡◌, ℕ, Bool, List, [], ◌∷◌, ◌++◌, Some, None}
+use Rattle.soqe_form.specs.declared.form.Form.{Form}
+use Rattle.soqe_form.specs.declared.form.Pred.TheVariants.{Bound}
+use Rattle.soqe_form.specs.declared.form.Block.{Block}
+use Rattle.soqe_form.specs.Places.{first_block, put_at}
+use Rattle.soqe_norm.specs.Valued.{valued, value_for, first_pos, first_neg}
+use Rattle.soqe_text.specs.declared.problem.Problem.{Problem}
+use Rattle.soqe_deriv.specs.declared.document.Method.TheVariants as method
+use Rattle.soqe_deriv.specs.declared.document.Stop.{Stop}
+use Rattle.soqe_deriv.specs.declared.document.Stop.TheVariants as stop
+use Rattle.soqe_deriv.specs.declared.document.Line.{Line}
+use Rattle.soqe_deriv.specs.declared.document.Line.TheVariants as line
+use Rattle.soqe_deriv.specs.declared.document.Document.{Document}
+use Rattle.soqe_deriv.specs.Valid.{goal_of, simplified, IsAccepted, IsHalted}
+use Rattle.soqe_deriv.specs.Sound.{IsAnswerTo}
+use Rattle.soqe_flow.specs.declared.derivation.Wanted.{Wanted}
+use Rattle.soqe_flow.specs.declared.derivation.Wanted.TheVariants as wanted
+use Rattle.soqe_flow.specs.declared.derivation.FlowEnd.{FlowEnd}
+use Rattle.soqe_flow.specs.declared.derivation.FlowEnd.TheVariants as flow
+
+-- how a derivation ends: with a result, or with a stop
+pub data Ending : Type 0 where
+  Result : Form → Ending
+  Stops : Stop → Ending
+
+-- the formula that replaces a block
+abbrev pub replaced : Block → Bool → Form
+replaced b v = valued b.pred.num v b.body
+
+-- the lines of a block whose predicate is replaced by a truth value
+abbrev pub sign_lines : Block → Bool → List Line
+sign_lines b v = line.Block method.Sign (Bound b.pred.num) ∷ line.Replace v (replaced b v) ∷ line.Close (simplified (replaced b v)) ∷ []
+
+-- what stands after such a block
+abbrev pub after_sign : Form → Block → Bool → Form
+after_sign f b v = simplified (put_at b.place (simplified (replaced b v)) f)
+
+-- Where f stands, these lines follow with the method asked for, and this is their ending.
+pub data Follows : Wanted → Form → List Line → Ending → Type 0 where
+  result : {w : Wanted} {f : Form} → first_block f ≡ None → Follows w f (line.Result f ∷ line.End ∷ []) (Result f)
+  sign : {f : Form} {b : Block} {v : Bool} {ls : List Line} {e : Ending} → first_block f ≡ Some b → value_for b ≡ Some v
+      → Follows wanted.Sign (after_sign f b v) ls e → Follows wanted.Sign f (sign_lines b v ++ ls) e
+  mixed : {f : Form} {b : Block} {i j : ℕ} → first_block f ≡ Some b
+      → first_pos (Bound b.pred.num) b.body ≡ Some i → first_neg (Bound b.pred.num) b.body ≡ Some j
+      → Follows wanted.Sign f (line.Block method.Sign (Bound b.pred.num) ∷ line.Stopped (stop.Mixed i j) ∷ line.End ∷ []) (Stops (stop.Mixed i j))
+
+-- The lines of a document are those that are due for its problem, and this is their ending.
+pub record IsOrdered (w : Wanted) (d : Document) (e : Ending) : Type 0 where
+  pub lines : List Line
+  pub are : d.lines ≡ line.Start (simplified (goal_of d.problem)) ∷ lines
+  pub follow : Follows w (simplified (goal_of d.problem)) lines e
+
+-- A derivation of the problem ends as its document does.
+abbrev pub EndsAsOrdered : Wanted → Problem → FlowEnd → Type 0
+EndsAsOrdered w p (flow.Done d) = (d.problem ≡ p) × (f : Form) × IsOrdered w d (Result f)
+EndsAsOrdered w p (flow.Stopped d s) = (d.problem ≡ p) × IsOrdered w d (Stops s)
+
+-- The document is valid, and its result answers its problem.
+abbrev pub EndsAsSound : Wanted → FlowEnd → Type 0
+EndsAsSound w (flow.Done d) = (f : Form) → IsOrdered w d (Result f) → IsAccepted d f × IsAnswerTo d.problem f
+EndsAsSound w (flow.Stopped d s) = IsHalted d

@@ -1,0 +1,32 @@
+-- The lines of a derivation while they are written.
+use Rattle.std.specs.Prelude.{◌≡◌, List, [], ◌∷◌, Option, Some, None}
+use Rattle.soqe_form.specs.declared.form.Form.{Form}
+use Rattle.soqe_form.specs.declared.form.Pred.TheVariants.{Bound}
+use Rattle.soqe_form.specs.declared.form.Block.{Block}
+use Rattle.soqe_norm.specs.Valued.{first_pos, first_neg}
+use Rattle.soqe_deriv.specs.declared.document.Method.TheVariants as method
+use Rattle.soqe_deriv.specs.declared.document.Stop.{Stop}
+use Rattle.soqe_deriv.specs.declared.document.Stop.TheVariants as stop
+use Rattle.soqe_deriv.specs.declared.document.Line.{Line}
+use Rattle.soqe_deriv.specs.declared.document.Line.TheVariants as line
+use Rattle.soqe_flow.specs.declared.derivation.Wanted.TheVariants as wanted
+use Rattle.soqe_flow.specs.Ordered.{Ending, Result, Stops, Follows}
+
+-- the lines behind those of a problem are those that are due for its goal, and this is their ending
+pub record Derives (g : Form) (all : List Line) (e : Ending) : Type 0 where
+  pub lines : List Line
+  pub are : all ≡ line.Start g ∷ lines
+  pub follow : Follows wanted.Sign g lines e
+
+-- the lines end with the stop, or with a result where there is none
+abbrev pub HasRun : Form → List Line → Option Stop → Type 0
+HasRun g ls None = (f : Form) × Derives g ls (Result f)
+HasRun g ls (Some s) = Derives g ls (Stops s)
+
+-- the stop has the places where the block's predicate first occurs with each sign
+abbrev pub IsMixed : Block → Stop → Type 0
+IsMixed b (stop.Mixed i j) = (first_pos (Bound b.pred.num) b.body ≡ Some i) × (first_neg (Bound b.pred.num) b.body ≡ Some j)
+
+-- the lines of a block whose predicate has both signs
+abbrev pub mixed_lines : Block → Stop → List Line
+mixed_lines b s = line.Block method.Sign (Bound b.pred.num) ∷ line.Stopped s ∷ line.End ∷ []
