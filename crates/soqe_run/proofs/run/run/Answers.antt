@@ -1,0 +1,6 @@
+use Rattle.soqe_run.proofs.Headline.{solved}
+use Rattle.soqe_run.proofs.run.run.Goals as goal
+
+pub returns-in-Ok-clause-headline : goal.returns-in-Ok-clause-headline
+returns-in-Ok-clause-headline g c =
+    solved _ _ _ _ _ _ _ _ _ _ c.in-Ok.ensures.due c.deliver.ensures.ways

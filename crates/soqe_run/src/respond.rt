@@ -1,0 +1,83 @@
+ghost use Rattle.std.specs.Prelude.{◌≡◌, ◌<◌, ◌^◌, ◌++◌, ℕ, List, length, codes, IfOk, IsTrue};
+ghost use Rattle.std.specs.Fmt.{decimal};
+ghost use Rattle.soqe_text.specs.Small.{SpellsSmall};
+ghost use Rattle.soqe_text.specs.Sorted.{IsSorted};
+ghost use Rattle.soqe_deriv.specs.Text.{document_text};
+ghost use Rattle.soqe_flow.specs.Ordered.{EndsAsOrdered, EndsAsSound};
+ghost use Rattle.soqe_run.specs.Reply.{IsFixed, is_reply, line};
+ghost use Rattle.soqe_run.specs.Responds.{Responds};
+
+use crate::reply::fixed;
+use crate::{Reply, Status};
+use soqe_deriv::{Document, write_document};
+use soqe_flow::{FlowEnd, Wanted, elim};
+use soqe_io::Mem;
+use soqe_text::{Problem, SmallFault, read_small};
+use std::alloc::{AllocError, Global};
+
+/// The engine: the reply to a text that isn't over its limit. The one error is want of memory.
+pub(crate) fn respond(alloc: Global, bytes: &[u8]) -> Mem<Reply>
+    requires { length bytes.now < 2 ^ 32 }
+    ensures responds { IfOk result (λ reply. Responds bytes.now reply.status reply.text.items) }
+    ensures status { IfOk result (λ reply. IsTrue (is_reply reply.status)) }
+{
+    match read_small(alloc, bytes) {
+        Ok(problem) => Ok(derive(alloc, problem)?),
+        Err(SmallFault::Syntax(at)) => Ok(syntax_at(alloc, at)?),
+        Err(SmallFault::NotBuilt) => Ok(fixed(alloc, Status::NotBuilt, "not built\n")?),
+        Err(SmallFault::Memory) => Err(AllocError),
+    }
+}
+
+// The reply to a text that spells the problem: its derivation, with a result or with a stop.
+fn derive(alloc: Global, problem: Problem) -> Mem<Reply>
+    requires { IsSorted problem }
+    ensures responds { IfOk result (λ reply. (bytes : List ℕ) → SpellsSmall bytes problem
+        → Responds bytes reply.status reply.text.items) }
+    ensures status { IfOk result (λ reply. IsTrue (is_reply reply.status)) }
+{
+    match derivation(alloc, problem) {
+        Ok(FlowEnd::Done(document)) => Ok(written(alloc, Status::Done, document)?),
+        Ok(FlowEnd::Stopped { document, stop }) => {
+            let _stop = stop;
+            Ok(written(alloc, Status::Mixed, document)?)
+        }
+        Err(AllocError) => Err(AllocError),
+    }
+}
+
+// The derivation of a problem, which is needed no longer. A tree is dropped in a function with one way out.
+fn derivation(alloc: Global, problem: Problem) -> Mem<FlowEnd>
+    requires { IsSorted problem }
+    ensures ordered { IfOk result (λ end. EndsAsOrdered Wanted.Sign problem end) }
+    ensures sound { IfOk result (λ end. EndsAsSound Wanted.Sign end) }
+{
+    elim(alloc, &problem, Wanted::Sign)
+}
+
+// The reply with the text of a document.
+fn written(alloc: Global, status: Status, document: Document) -> Mem<Reply>
+    ensures { IfOk result (λ reply. IsFixed status (document_text document) reply.status reply.text.items) }
+{
+    let text = text_of(alloc, document)?;
+    Ok(Reply { status, text })
+}
+
+// The text of a document, which is needed no longer.
+fn text_of(alloc: Global, document: Document) -> Mem<Vec<u8>>
+    ensures { IfOk result (λ text. text.items ≡ document_text document) }
+{
+    write_document(alloc, &document)
+}
+
+// The reply to a text with its syntax fault at this offset.
+fn syntax_at(alloc: Global, at: u64) -> Mem<Reply>
+    ensures { IfOk result (λ reply. IsFixed Status.Syntax (line (codes "syntax at " ++ decimal at))
+        reply.status reply.text.items) }
+{
+    let text = format!(in alloc; "syntax at {at}\n")?;
+    Ok(Reply {
+        status: Status::Syntax,
+        text: text.into_bytes(),
+    })
+}

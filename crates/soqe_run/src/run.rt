@@ -1,0 +1,101 @@
+ghost use Rattle.std.specs.Prelude.{◌≡◌, ◌≤◌, map, string_bytes, IfOk};
+ghost use Rattle.soqe_io.specs.Faults.{Rose};
+ghost use Rattle.soqe_stream.specs.Read.{IsReadWithin};
+ghost use Rattle.soqe_run.specs.Answer.{Replies};
+ghost use Rattle.soqe_run.specs.Plan.{the_plan};
+ghost use Rattle.soqe_run.specs.Working.{Works};
+ghost use Rattle.soqe_run.specs.Headline.{IsSolved};
+ghost use Rattle.soqe_run.specs.Outcome.{EndsAs, IsDelivered, IsDue, most_read};
+
+use crate::reply::{read_fault, too_long, usage};
+use crate::respond::respond;
+use crate::{Method, Plan, Reply, Status, read_plan};
+use soqe_io::{Failed, Mem, Sink, Source};
+use soqe_stream::{ReadError, read_up_to, write_whole};
+use std::alloc::{AllocError, Global};
+
+/// The most bytes of a problem text.
+const MAX_BYTES: u64 = 1_048_576;
+
+/// Takes the words, the program's name first, and the source's bytes to a text on the sink and a status.
+///
+/// It reads the source first, then builds the whole text, and then writes it in pieces of at most 4,096 bytes. From
+/// the first write on it takes no memory. The order of refusals is: words, read fault, too long, those of the engine,
+/// write fault. Want of memory may come at any step before the first write.
+pub fn run<S: Source, O: Sink>(alloc: Global, words: &[String], src: &mut S, out: &mut O) -> Status
+    ensures headline { result ≡ Status.Done
+        → IsSolved (S.left src.old) (S.left src.new) (O.taken out.old) (O.taken out.new) }
+    ensures ways { EndsAs
+        (IsDue (map string_bytes words.now)
+        (S.left src.old) (S.left src.new) (Rose (S.faults src.old) (S.faults src.new)))
+        (O.taken out.old) (O.taken out.new) (Rose (O.faults out.old) (O.faults out.new)) result }
+    ensures read { result ≡ Status.ReadFault → Rose (S.faults src.old) (S.faults src.new) }
+    ensures write { result ≡ Status.WriteFault → Rose (O.faults out.old) (O.faults out.new) }
+    ensures within { IsReadWithin (most_read (the_plan (map string_bytes words.now)))
+        (S.left src.old) (S.left src.new) }
+    ensures source_later { S.faults src.old ≤ S.faults src.new }
+    ensures sink_later { O.faults out.old ≤ O.faults out.new }
+{
+    match prepare(alloc, words, src) {
+        Ok(reply) => deliver(&reply, out),
+        Err(AllocError) => Status::Memory,
+    }
+}
+
+// What is to be written, and with which status.
+fn prepare<S: Source>(alloc: Global, words: &[String], src: &mut S) -> Mem<Reply>
+    ensures due { IfOk result (λ reply. IsDue (map string_bytes words.now)
+        (S.left src.old) (S.left src.new) (Rose (S.faults src.old) (S.faults src.new))
+        reply.status reply.text.items) }
+    ensures within { IsReadWithin (most_read (the_plan (map string_bytes words.now)))
+        (S.left src.old) (S.left src.new) }
+    ensures later { S.faults src.old ≤ S.faults src.new }
+{
+    match read_plan(words) {
+        Some(plan) => Ok(follow(alloc, plan, src)?),
+        None => Ok(usage(alloc)?),
+    }
+}
+
+// What is to be written for a plan, and with which status.
+fn follow<S: Source>(alloc: Global, plan: Plan, src: &mut S) -> Mem<Reply>
+    ensures { Works S.left S.faults plan src.old src.new result }
+{
+    match plan {
+        Plan::Elim(method) => elim(alloc, method, src),
+    }
+}
+
+fn elim<S: Source>(alloc: Global, method: Method, src: &mut S) -> Mem<Reply>
+    ensures { Works S.left S.faults (Plan.Elim method) src.old src.new result }
+{
+    match read_up_to(alloc, src, MAX_BYTES + 1) {
+        Ok(bytes) => Ok(reply_to(alloc, method, bytes.as_slice())?),
+        Err(ReadError::Fault) => read_fault(alloc),
+        Err(ReadError::Memory) => Err(AllocError),
+    }
+}
+
+// The reply to all the bytes of a problem text, or to one more than it may have.
+fn reply_to(alloc: Global, method: Method, bytes: &[u8]) -> Mem<Reply>
+    ensures { IfOk result (λ reply. Replies (Plan.Elim method) bytes.now reply.status reply.text.items) }
+{
+    if bytes.len() as u64 > MAX_BYTES {
+        return Ok(too_long(alloc)?);
+    }
+    match method {
+        Method::Sign => Ok(respond(alloc, bytes)?),
+    }
+}
+
+// Writes the text, and answers its status or the fault of the sink. It takes no memory.
+fn deliver<O: Sink>(reply: &Reply, out: &mut O) -> Status
+    ensures ways { IsDelivered reply.now.status reply.now.text.items
+        (O.taken out.old) (O.taken out.new) (Rose (O.faults out.old) (O.faults out.new)) result }
+    ensures later { O.faults out.old ≤ O.faults out.new }
+{
+    match write_whole(out, &reply.text) {
+        Ok(()) => reply.status,
+        Err(Failed) => Status::WriteFault,
+    }
+}

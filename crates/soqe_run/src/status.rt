@@ -1,0 +1,44 @@
+ghost use Rattle.std.specs.Prelude.{◌≡◌};
+ghost use Rattle.soqe_run.specs.Status.{number_of};
+
+/// How a run ends.
+#[derive(Clone, Copy, Debug, PartialEq, Eq)]
+pub enum Status {
+    /// The text was read to its end, and the document is written whole.
+    Done,
+    /// The words aren't taken, and the source isn't read.
+    Usage,
+    /// The text is no problem, and the answer tells the place from which none goes on.
+    Syntax,
+    /// The text is over its limit.
+    TooLong,
+    /// A read failed, and the source has counted a fault.
+    ReadFault,
+    /// A write failed, and the sink has counted a fault.
+    WriteFault,
+    /// Memory was wanting, and nothing is written.
+    Memory,
+    /// The predicate of a block occurs with both signs. The document ends with the two places.
+    Mixed,
+    /// The text is a problem, but none that the program can take yet.
+    NotBuilt,
+}
+
+impl Status {
+    /// The number that the program ends with. It takes no memory.
+    pub fn number(self) -> u8
+        ensures { result ≡ number_of self }
+    {
+        match self {
+            Status::Done => 0,
+            Status::Usage => 2,
+            Status::Syntax => 3,
+            Status::TooLong => 6,
+            Status::ReadFault => 7,
+            Status::WriteFault => 8,
+            Status::Memory => 9,
+            Status::Mixed => 14,
+            Status::NotBuilt => 20,
+        }
+    }
+}
