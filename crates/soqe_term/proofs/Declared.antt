@@ -17,9 +17,9 @@ use Rattle.std.proofs.lemmas.Slice.Eq.{bytes_eq-Decides}
 use Rattle.std.specs.List.{position_from}
 use Rattle.std.specs.Option.{unwrap_or}
 use Rattle.std.specs.Str.{bytes_eq}
-use Rattle.soqe_term.specs.declared.signature.Kind.TheVariants as kind
-use Rattle.soqe_term.specs.declared.signature.NameKind.{NameKind}
-use Rattle.soqe_term.specs.declared.signature.NameKind.TheVariants as numbering
+use Rattle.soqe_term.specs.declared.kinds.Kind.TheVariants as kind
+use Rattle.soqe_term.specs.declared.kinds.NameKind.{NameKind}
+use Rattle.soqe_term.specs.declared.kinds.NameKind.TheVariants as numbering
 use Rattle.soqe_term.specs.Sorting.{FunSort}
 use Rattle.soqe_term.specs.Declarations.{Declaration, Found, numbering_of, same_numbering, of_numbering, count_of, lookup, lookup_behind, place_of, name_from, name_of, fun_sort_from, fun_sort_of, pred_sorts_from, pred_sorts_of, free_sort_from, free_sort_of, HasDistinctNames}
 

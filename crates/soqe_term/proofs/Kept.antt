@@ -18,7 +18,7 @@ use Rattle.std.specs.String.{string_eq}
 use Rattle.indexmap.specs.IndexMap.{insert_entry}
 use Rattle.soqe_term.specs.declared.signature.Stored.{Stored}
 use Rattle.soqe_term.specs.Declarations.{Declaration, Found, HasDistinctNames, numbering_of, count_of, lookup, lookup_behind, of_numbering, place_of}
-use Rattle.soqe_term.specs.declared.signature.NameKind.{NameKind}
+use Rattle.soqe_term.specs.declared.kinds.NameKind.{NameKind}
 use Rattle.soqe_term.specs.Places.{PlaceLists, list_at, with_place, places_of}
 use Rattle.soqe_term.specs.Stored.{declaration, declarations, numbers_behind, IsKept}
 use Rattle.soqe_term.proofs.Declared.{bytes_eq-sym, bytes_eq-refl, take-push, place_of-take, count_of-le}

@@ -8,3 +8,11 @@ pub mod Sortings
 pub mod Structures
 pub mod Values
 pub mod Worlds
+pub mod Pigeons
+pub mod Replaced
+pub mod Borne
+pub mod BoundStores
+pub mod EqualTerms
+pub mod Aligned
+pub mod Matches
+pub mod Renumbered

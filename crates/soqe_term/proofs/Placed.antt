@@ -6,8 +6,8 @@
 use Rattle.std.specs.Prelude.{ℕ, zero, suc, ◌≡◌, ◌+◌, Bool, true, false, cond, List, [], ◌∷◌, ◌++◌, length, Option, slice_get, refl}
 use Rattle.std.proofs.Common.{sym, ◌∙◌, ap, arith, zero-add}
 use Rattle.std.specs.Option.{option_and_then}
-use Rattle.soqe_term.specs.declared.signature.NameKind.{NameKind}
-use Rattle.soqe_term.specs.declared.signature.NameKind.TheVariants as numbering
+use Rattle.soqe_term.specs.declared.kinds.NameKind.{NameKind}
+use Rattle.soqe_term.specs.declared.kinds.NameKind.TheVariants as numbering
 use Rattle.soqe_term.specs.Declarations.{Declaration, numbering_of, same_numbering, of_numbering, count_of}
 use Rattle.soqe_term.specs.Places.{PlaceLists, list_at, with_place, places_from, places_of}
 

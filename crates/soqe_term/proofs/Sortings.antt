@@ -1,5 +1,5 @@
 -- What the sorting of a term depends on.
-use Rattle.std.proofs.Common.{◌≡◌, ℕ, Bool, true, false, eqb, ◌&&◌, List, [], ◌∷◌, Option, refl, ap}
+use Rattle.std.proofs.Common.{◌≡◌, ℕ, eqb, ◌&&◌, List, [], ◌∷◌, Option, refl, ap}
 use Rattle.soqe_term.specs.declared.term.Sym.{Sym}
 use Rattle.soqe_term.specs.declared.term.Sym.TheVariants.{Fun, Skolem}
 use Rattle.soqe_term.specs.declared.term.Term.{Term, Var as var, App}

@@ -1,5 +1,5 @@
 -- The world of a finite structure and a setting fits what the signature says.
-use Rattle.std.proofs.Common.{◌≡◌, ℕ, ◌<◌, ◌≤◌, ⊎_elim, List, [], map, Option, Some, None, length, refl, sym, ◌∙◌, ap, subst, arith}
+use Rattle.std.proofs.Common.{◌≡◌, ℕ, ◌<◌, ⊎_elim, List, [], Some, None, length, sym, subst, arith}
 use Rattle.std.specs.Prelude.{slice_index_or}
 use Rattle.std.specs.List.{All}
 use Rattle.std.proofs.lemmas.Bool.{cases_lt}
@@ -7,9 +7,9 @@ use Rattle.std.proofs.lemmas.List.{get_or_past}
 use Rattle.std.proofs.lemmas.List.Elements.{All-get_or}
 use Rattle.soqe_term.specs.Finite.{product, place, value_entry}
 use Rattle.soqe_term.specs.Ranges.{InRange}
-use Rattle.soqe_term.specs.Sorting.{FunSort, Sorting}
+use Rattle.soqe_term.specs.Sorting.{FunSort}
 use Rattle.soqe_term.specs.Fits.{StaysIn, Fits}
-use Rattle.soqe_term.specs.Declarations.{Declaration, fun_sort_of, free_sort_of, sorting_of}
+use Rattle.soqe_term.specs.Declarations.{Declaration, fun_sort_of, sorting_of}
 use Rattle.soqe_term.specs.Structures.{Structure, Setting, size_in, sizes_in, fun_args, world_of, IsStructureFor, IsSettingFor}
 use Rattle.soqe_term.proofs.Enumerations.{place-below}
 

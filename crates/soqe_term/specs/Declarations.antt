@@ -1,10 +1,10 @@
 -- What a signature says: its declarations in order, and the numbers and sorts that they give to names.
 use Rattle.std.specs.Prelude.{ℕ, zero, suc, ◌≡◌, Bool, true, false, cond, List, [], ◌∷◌, ◌++◌, length, filter, Option, Some, None, slice_get, position}
 use Rattle.std.specs.Str.{bytes_eq}
-use Rattle.soqe_term.specs.declared.signature.Kind.{Kind}
-use Rattle.soqe_term.specs.declared.signature.Kind.TheVariants as kind
-use Rattle.soqe_term.specs.declared.signature.NameKind.{NameKind}
-use Rattle.soqe_term.specs.declared.signature.NameKind.TheVariants as numbering
+use Rattle.soqe_term.specs.declared.kinds.Kind.{Kind}
+use Rattle.soqe_term.specs.declared.kinds.Kind.TheVariants as kind
+use Rattle.soqe_term.specs.declared.kinds.NameKind.{NameKind}
+use Rattle.soqe_term.specs.declared.kinds.NameKind.TheVariants as numbering
 use Rattle.soqe_term.specs.declared.term.Var.{Var}
 use Rattle.soqe_term.specs.Sorting.{FunSort, Sorting}
 

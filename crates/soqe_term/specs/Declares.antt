@@ -1,10 +1,10 @@
 -- Which declarations are refused, and why.
 use Rattle.std.specs.Prelude.{ℕ, ◌≡◌, Bool, true, false, cond, nat_lt, List, [], ◌∷◌, ◌++◌, Option, Some, None, Result, Ok, Err}
-use Rattle.soqe_term.specs.declared.signature.Kind.{Kind}
-use Rattle.soqe_term.specs.declared.signature.Kind.TheVariants as kind
-use Rattle.soqe_term.specs.declared.signature.NameKind.TheVariants as numbering
-use Rattle.soqe_term.specs.declared.signature.DeclareFault.{DeclareFault}
-use Rattle.soqe_term.specs.declared.signature.DeclareFault.TheVariants as fault
+use Rattle.soqe_term.specs.declared.kinds.Kind.{Kind}
+use Rattle.soqe_term.specs.declared.kinds.Kind.TheVariants as kind
+use Rattle.soqe_term.specs.declared.kinds.NameKind.TheVariants as numbering
+use Rattle.soqe_term.specs.declared.kinds.DeclareFault.{DeclareFault}
+use Rattle.soqe_term.specs.declared.kinds.DeclareFault.TheVariants as fault
 use Rattle.soqe_term.specs.Declarations.{Declaration, count_of, numbering_of, place_of}
 
 -- the sorts that a kind names, arguments first

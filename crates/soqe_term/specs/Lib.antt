@@ -13,3 +13,13 @@ pub mod Declares
 pub mod Stored
 pub mod Laws
 pub mod Samples
+pub mod Unused
+pub mod Bindings
+pub mod Subst
+pub mod SkolemSigs
+pub mod BoundTerms
+pub mod Equal
+pub mod Matching
+pub mod Matched
+pub mod Renumber
+pub mod RenumberLaws

@@ -1,7 +1,7 @@
 -- Where the declarations of each numbering stand.
 use Rattle.std.specs.Prelude.{ℕ, ◌+◌, cond, List, [], ◌∷◌, ◌++◌}
-use Rattle.soqe_term.specs.declared.signature.NameKind.{NameKind}
-use Rattle.soqe_term.specs.declared.signature.NameKind.TheVariants as numbering
+use Rattle.soqe_term.specs.declared.kinds.NameKind.{NameKind}
+use Rattle.soqe_term.specs.declared.kinds.NameKind.TheVariants as numbering
 use Rattle.soqe_term.specs.Declarations.{Declaration, numbering_of, same_numbering}
 
 -- for each numbering the places of its names among the declarations, in order

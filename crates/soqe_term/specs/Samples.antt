@@ -1,8 +1,7 @@
 -- The definitions on a small structure, whose answers are plain by hand.
-use Rattle.std.specs.Prelude.{ℕ, List, [], ◌∷◌}
-use Rattle.soqe_term.specs.declared.signature.Kind.TheVariants as kind
+use Rattle.std.specs.Prelude.{List, [], ◌∷◌}
+use Rattle.soqe_term.specs.declared.kinds.Kind.TheVariants as kind
 use Rattle.soqe_term.specs.declared.term.Sym.TheVariants.{Fun}
-use Rattle.soqe_term.specs.declared.term.Var.{Var}
 use Rattle.soqe_term.specs.declared.term.Term.{Term, Var as var, App}
 use Rattle.soqe_term.specs.declared.term.Terms.{Nil, Cons}
 use Rattle.soqe_term.specs.World.{World}

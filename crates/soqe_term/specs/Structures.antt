@@ -1,7 +1,7 @@
 -- Finite structures and settings: lists of numbers and of truth values, and the world that they give.
 use Rattle.std.specs.Prelude.{◌≡◌, ℕ, ◌<◌, Bool, cond, eqb, List, [], ◌∷◌, length, map, Option, Some, None, slice_index_or}
 use Rattle.std.specs.List.{All}
-use Rattle.soqe_term.specs.declared.signature.NameKind.TheVariants as numbering
+use Rattle.soqe_term.specs.declared.kinds.NameKind.TheVariants as numbering
 use Rattle.soqe_term.specs.World.{World}
 use Rattle.soqe_term.specs.Finite.{product, entry, value_entry}
 use Rattle.soqe_term.specs.Sorting.{FunSort}

@@ -7,6 +7,8 @@ ghost use Rattle.soqe_term.specs.Ranges.{tabulated};
 ghost use Rattle.soqe_term.specs.Sorting.{sorted_term};
 ghost use Rattle.soqe_term.specs.Declarations.{sorting_of};
 ghost use Rattle.soqe_term.specs.Laws.{StructuresFit, ValuesStayInRange, RangeDecidesValues, TablesAreWhole, TablesGiveBack};
+ghost use Rattle.soqe_term.specs.Matching.{MatchesAreUnique};
+ghost use Rattle.soqe_term.specs.RenumberLaws.{RenumberedHasValue, RenumberedIsSorted};
 ghost use Rattle.soqe_term.specs.Samples.{small_signature, small_world, x_term, twice};
 
 /// What a world that fits gives to well-sorted terms; the worlds of finite structures fit.
@@ -20,6 +22,17 @@ pub fn worlds()
 pub fn tables()
     ensures whole { TablesAreWhole }
     ensures given_back { TablesGiveBack }
+{}
+
+/// A pattern matches a term in one way at most.
+pub fn matches()
+    ensures { MatchesAreUnique }
+{}
+
+/// A term under other numbers says of these what the term says of its own.
+pub fn renumberings()
+    ensures value { RenumberedHasValue }
+    ensures sorted { RenumberedIsSorted }
 {}
 
 /// The definitions on small cases.

@@ -5,16 +5,37 @@
 //! structures over which every theorem of the suite is stated, and `specs/Declarations.antt` for what a signature says.
 #![tactic(auto)]
 
+mod bindings;
+mod equal;
+mod kinds;
 pub mod laws;
 mod lists;
+mod matching;
+mod occurrence;
 mod places;
+mod renaming;
 mod signature;
+mod skolems;
+mod sorts;
+mod subst;
 mod term;
+#[cfg(test)]
+mod tests;
+mod unused;
 
-pub use lists::{Nums, Sorts, Vars};
-pub use signature::{DeclareFault, Kind, NameKind, Signature};
+pub use bindings::{Binding, Bound};
+pub use kinds::{DeclareFault, Kind, NameKind};
+pub use lists::{NumLists, Nums, Sorts, Vars};
+pub use matching::match_term;
+pub use occurrence::{occurs, occurs_in_any};
+pub use renaming::{Renaming, renumber, renumber_all};
+pub use signature::Signature;
+pub use skolems::{SkolemSig, SkolemSigs};
+pub use sorts::sort_of;
 use std::alloc::AllocError;
+pub use subst::{replace, replace_all, subst_term};
 pub use term::{Sym, Term, Terms, Var};
+pub use unused::least_unused;
 
 /// Want of memory.
 pub type NoMemory = AllocError;

@@ -1,5 +1,5 @@
-//! Lists of sorts, of numbers, of variables and of the sorts of Skolem functions. Contracts see each as the list of its items.
-ghost use Rattle.std.specs.Prelude.{◌≡◌, ◌∷◌, [], ◌++◌, IfOk, OnOk, OnErr};
+//! Lists of sorts, of numbers, of lists of numbers, and of variables. Contracts see each as the list of its items.
+ghost use Rattle.std.specs.Prelude.{◌≡◌, ◌∷◌, [], ◌++◌, length, IfOk, OnOk, OnErr};
 
 use crate::{Mem, Var};
 use std::alloc::Global;
@@ -106,6 +106,62 @@ impl Nums {
     {
         let items = Vec::from_slice(alloc, self.items.as_slice())?;
         Ok(Nums { items })
+    }
+}
+
+/// Lists of numbers.
+#[derive(Debug, Drop)]
+pub struct NumLists {
+    items: Vec<Nums>,
+}
+
+impl Model for NumLists {
+    ghost use Rattle.std.specs.Prelude.{List, ℕ};
+
+    ghost Value = { List (List ℕ) };
+
+    ghost view = { λ s. s.items.items };
+}
+
+impl NumLists {
+    /// No lists. It takes no memory.
+    pub fn new(alloc: Global) -> NumLists
+        ensures { result ≡ [] }
+    {
+        NumLists {
+            items: Vec::new(alloc),
+        }
+    }
+
+    pub fn as_slice(&self) -> &[Nums]
+        ensures { result.now ≡ self.now }
+    {
+        self.items.as_slice()
+    }
+
+    pub fn len(&self) -> usize
+        ensures { result ≡ length self.now }
+    {
+        self.items.len()
+    }
+
+    pub fn push(&mut self, nums: Nums) -> Mem<()>
+        ensures ok { OnOk result (self.new ≡ self.old ++ nums ∷ []) }
+        ensures err { OnErr result (self.new ≡ self.old) }
+    {
+        self.items.push(nums)?;
+        Ok(())
+    }
+
+    /// Lists that equal these. It allocates each of them anew.
+    pub fn copy(&self, alloc: Global) -> Mem<NumLists>
+        ensures { IfOk result (λ copy. copy ≡ self.now) }
+    {
+        let mut copy = NumLists::new(alloc);
+        for nums in self.items.as_slice() {
+            copy.push(nums.copy(alloc)?)?;
+        }
+        Ok(copy)
     }
 }
 

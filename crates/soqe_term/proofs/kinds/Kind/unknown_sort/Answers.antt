@@ -1,7 +1,7 @@
 use Rattle.std.proofs.Common.{◌∙◌, ap, sym, ◌∷◌, [], Some, None}
 use Rattle.soqe_term.specs.Declares.{first_unknown, sorts_named}
 use Rattle.soqe_term.proofs.Faults.{first_unknown-append}
-use Rattle.soqe_term.proofs.signature.Kind.unknown_sort.Goals as goal
+use Rattle.soqe_term.proofs.kinds.Kind.unknown_sort.Goals as goal
 
 pub returns-in-Some : goal.returns-in-Some
 returns-in-Some c =

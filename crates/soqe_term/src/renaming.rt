@@ -1,0 +1,90 @@
+//! Other numbers for variables, and terms under them.
+#![tactic(auto, unfolding(crate::specs::Boxes::boxes))]
+
+ghost use Rattle.std.specs.Prelude.{◌≡◌, IfOk, OnOk};
+ghost use Rattle.soqe_term.specs.World.{changed};
+ghost use Rattle.soqe_term.specs.Renumber.{renames, renumbered, all_renumbered};
+
+use crate::{Mem, Term, Terms, Var};
+use indexmap::IndexMap;
+use sqlite_items::Boxed;
+use std::alloc::Global;
+use std::marker::Model;
+
+#[cfg(test)]
+mod tests;
+
+/// New numbers for variables; a number without an entry stays. Contracts ask it by `renames`.
+#[derive(Drop)]
+pub struct Renaming {
+    numbers: IndexMap<u64, u64>,
+}
+
+impl Model for Renaming {
+    ghost use Rattle.std.specs.Prelude.{List, ℕ};
+
+    ghost Value = { List (ℕ × ℕ) };
+
+    ghost view = { λ r. r.numbers.entries };
+}
+
+impl Renaming {
+    /// Each number stays. It takes no memory.
+    pub fn new(alloc: Global) -> Renaming
+        ensures { renames result ≡ (λ n. n) }
+    {
+        Renaming {
+            numbers: IndexMap::new(alloc),
+        }
+    }
+
+    /// The number that takes the place of a number. It takes no memory.
+    pub fn of(&self, n: u64) -> u64
+        ensures { result ≡ renames self.now n }
+    {
+        match self.numbers.get(&n) {
+            Some(to) => *to,
+            None => n,
+        }
+    }
+
+    /// Sets the number that takes the place of a number.
+    pub fn set(&mut self, n: u64, to: u64) -> Mem<()>
+        ensures { OnOk result (renames self.new ≡ changed (renames self.old) n to) }
+    {
+        self.numbers.insert(n, to)?;
+        Ok(())
+    }
+}
+
+/// The term with its new number for each variable. It allocates each node anew.
+#[cycle(renumber)]
+pub fn renumber(alloc: Global, term: &Term, by: &Renaming) -> Mem<Term>
+    ensures { IfOk result (λ r. r ≡ renumbered (renames by.now) term.now) }
+{
+    match term {
+        Term::Var(x) => {
+            let num = by.of(x.num);
+            Ok(Term::Var(Var { num, sort: x.sort }))
+        }
+        Term::App(symbol, sort, args) => {
+            let args = renumber_all(alloc, args, by)?;
+            Ok(Term::App(*symbol, *sort, args))
+        }
+    }
+}
+
+/// The terms with their new numbers for each variable. It allocates each node anew.
+#[cycle(renumber)]
+pub fn renumber_all(alloc: Global, terms: &Terms, by: &Renaming) -> Mem<Terms>
+    ensures { IfOk result (λ r. r ≡ all_renumbered (renames by.now) terms.now) }
+{
+    match terms {
+        Terms::Nil => Ok(Terms::Nil),
+        Terms::Cons(first, rest) => {
+            let first = renumber(alloc, first.get(), by)?;
+            let rest = renumber_all(alloc, rest.get(), by)?;
+            Ok(Terms::Cons(Boxed::new(alloc, first)?, Boxed::new(alloc, rest)?))
+        }
+    }
+}
