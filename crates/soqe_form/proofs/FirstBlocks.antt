@@ -1,11 +1,11 @@
 -- The first block stands at its place, and no quantifier of a predicate stands in its body.
-use Rattle.std.proofs.Common.{◌≡◌, ℕ, Bool, true, false, cond, eqb, ◌||◌, List, [], ◌∷◌, Option, Some, None, refl, sym, ◌∙◌, ap}
+use Rattle.std.proofs.Common.{◌≡◌, ℕ, true, false, cond, ◌||◌, List, [], ◌∷◌, Option, Some, None, refl, sym, ◌∙◌, ap}
 use Rattle.std.specs.Prelude.{is_some}
 use Rattle.soqe_term.specs.Sorting.{Sorting, over_bound}
 use Rattle.soqe_form.specs.declared.form.Form.{Form, True, False, Equal, Atom, Not, Not', And, And', Or, Or', Imp, Imp', Iff, Iff', All, All', Ex, Ex', All2, All2', Ex2, Ex2', end_of-Form as end, more_of-Form as one}
 use Rattle.soqe_form.specs.declared.form.Block.{Block}
 use Rattle.soqe_form.specs.Boxes.{boxes}
-use Rattle.soqe_form.specs.Places.{first_child, child, part_at, within, leftmost, innermost, first_block, quantified, has_blocks, scope_at}
+use Rattle.soqe_form.specs.Places.{part_at, within, leftmost, innermost, first_block, quantified, has_blocks, scope_at}
 use Rattle.soqe_form.specs.Sorted.{sorted}
 use Rattle.soqe_form.proofs.Places.{sorted-part}
 

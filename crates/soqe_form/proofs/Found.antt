@@ -1,5 +1,5 @@
 -- The search gives back the first block.
-use Rattle.std.proofs.Common.{◌≡◌, ℕ, Option, Some, None, refl, ap}
+use Rattle.std.proofs.Common.{◌≡◌, Option, Some, None, refl, ap}
 use Rattle.std.proofs.lemmas.List.{reverse-reverse}
 use Rattle.soqe_form.specs.declared.form.Block.{Block}
 use Rattle.soqe_form.specs.Found.{upward}

@@ -1,15 +1,14 @@
 -- A part replaced by one of equal truth in its scope keeps the truth of the whole, and the parts of a well-sorted
 -- formula are well sorted in theirs.
-use Rattle.std.proofs.Common.{◌≡◌, ℕ, ◌<◌, Bool, true, false, cond, eqb, not, ◌||◌, ◌&&◌, map, List, [], ◌∷◌, Option, Some, None, refl, sym, ◌∙◌, ap, subst}
+use Rattle.std.proofs.Common.{◌≡◌, ℕ, Bool, true, false, cond, eqb, not, ◌||◌, ◌&&◌, map, List, [], ◌∷◌, Option, Some, None, sym, ◌∙◌, ap}
 use Rattle.std.proofs.lemmas.Bool.{and_from}
-use Rattle.soqe_term.specs.World.{World, with_var, with_bound}
-use Rattle.soqe_term.specs.Finite.{every, some, every_list, some_list, product, entry}
+use Rattle.soqe_term.specs.World.{with_var, with_bound}
+use Rattle.soqe_term.specs.Finite.{every_list, some_list, product, entry}
 use Rattle.soqe_term.specs.Sorting.{Sorting, over_var, over_bound}
-use Rattle.soqe_term.specs.Fits.{Fits}
 use Rattle.soqe_term.proofs.Choices.{and_first, and_second}
 use Rattle.soqe_term.proofs.Enumerations.{every-same, some-same}
 use Rattle.soqe_term.proofs.Values.{fits-var, fits-bound}
-use Rattle.soqe_form.specs.declared.form.Form.{Form, True, False, Equal, Atom, Not, Not', And, And', Or, Or', Imp, Imp', Iff, Iff', All, All', Ex, Ex', All2, All2', Ex2, Ex2', end_of-Form as end, more_of-Form as one}
+use Rattle.soqe_form.specs.declared.form.Form.{Form, True, False, Equal, Atom, Not', And, And', Or, Or', Imp, Imp', Iff, Iff', All', Ex', All2', Ex2', end_of-Form as end, more_of-Form as one}
 use Rattle.soqe_form.specs.Boxes.{boxes}
 use Rattle.soqe_form.specs.Truth.{truth, alike}
 use Rattle.soqe_form.specs.Sorted.{sorted}

@@ -1,8 +1,8 @@
 -- What the sorting of a formula depends on.
-use Rattle.std.proofs.Common.{◌≡◌, ℕ, Bool, true, false, eqb, ◌&&◌, List, Option, Some, refl}
+use Rattle.std.proofs.Common.{◌≡◌, ℕ, false, eqb, ◌&&◌, List, Option, Some, refl}
 use Rattle.soqe_term.specs.World.{changed}
-use Rattle.soqe_term.specs.Occurs.{occurs, occurs_any, AgreeOn}
-use Rattle.soqe_term.specs.Sorting.{Sorting, over_var, over_bound, with_sorts, own_sort, sorted_term, sorted_terms}
+use Rattle.soqe_term.specs.Occurs.{occurs, AgreeOn}
+use Rattle.soqe_term.specs.Sorting.{Sorting, over_var, over_bound, with_sorts, own_sort}
 use Rattle.soqe_term.proofs.Worlds.{agree_changed, agree_under, agree-left, agree-right, eqb-self}
 use Rattle.soqe_term.proofs.Sortings.{known, sorted_term-agree, sorted_terms-agree}
 use Rattle.soqe_form.specs.declared.form.Pred.{Pred}

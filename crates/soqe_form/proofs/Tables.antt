@@ -1,5 +1,5 @@
 -- A table given as a function is tried as a list.
-use Rattle.std.proofs.Common.{◌≡◌, ℕ, Bool, true, false, cond, eqb, map, List, length, Option, Some, refl, sym, ◌∙◌, ap, subst}
+use Rattle.std.proofs.Common.{◌≡◌, ℕ, Bool, true, false, cond, eqb, map, List, Option, Some, refl, sym, ◌∙◌, subst}
 use Rattle.soqe_term.specs.World.{World, with_bound}
 use Rattle.soqe_term.specs.Finite.{every_list, some_list, product, entry}
 use Rattle.soqe_term.specs.Ranges.{InRange, tabulated}

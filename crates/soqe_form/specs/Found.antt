@@ -1,5 +1,5 @@
 -- The first block as the search gives it back: its place is collected from the block up to the root.
-use Rattle.std.specs.Prelude.{ℕ, List, [], ◌∷◌, ◌++◌, reverse, Option, Some, None}
+use Rattle.std.specs.Prelude.{ℕ, [], ◌∷◌, ◌++◌, reverse, Option, Some, None}
 use Rattle.soqe_form.specs.declared.form.Block.{Block}
 
 -- the block with its place read from the end

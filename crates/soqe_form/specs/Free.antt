@@ -1,9 +1,9 @@
 -- The free names of a formula.
-use Rattle.std.specs.Prelude.{ℕ, eqb, Bool, true, false, ◌||◌, cond}
+use Rattle.std.specs.Prelude.{ℕ, eqb, Bool, false, ◌||◌, cond}
 use Rattle.soqe_term.specs.Occurs.{occurs, occurs_any}
 use Rattle.soqe_form.specs.declared.form.Pred.{Pred}
 use Rattle.soqe_form.specs.declared.form.Pred.TheVariants.{Decl, Bound}
-use Rattle.soqe_form.specs.declared.form.Form.{Form, True, False, Equal, Atom, Not, Not', And, And', Or, Or', Imp, Imp', Iff, Iff', All, All', Ex, Ex', All2, All2', Ex2, Ex2', end_of-Form as end, more_of-Form as one}
+use Rattle.soqe_form.specs.declared.form.Form.{Form, True, False, Equal, Atom, Not', And', Or', Imp', Iff', All', Ex', All2', Ex2', end_of-Form as end, more_of-Form as one}
 
 -- the variable n has an occurrence that no binder in the formula binds
 abbrev pub free : ℕ → Form → Bool

@@ -1,8 +1,7 @@
 -- The part of a formula at a place, what is in scope there, and the first block.
 -- A place is the list of the children that lead to it from the root, 0 the first and 1 the second.
-use Rattle.std.specs.Prelude.{ℕ, Bool, true, false, cond, eqb, List, [], ◌∷◌, Option, Some, None, ◌||◌, ◌≡◌}
+use Rattle.std.specs.Prelude.{ℕ, Bool, true, false, cond, eqb, List, [], ◌∷◌, Option, Some, None, ◌||◌}
 use Rattle.soqe_term.specs.Sorting.{Sorting, over_var, over_bound}
-use Rattle.soqe_form.specs.declared.form.PVar.{PVar}
 use Rattle.soqe_form.specs.declared.form.Form.{Form, True, False, Equal, Atom, Not, Not', And, And', Or, Or', Imp, Imp', Iff, Iff', All, All', Ex, Ex', All2, All2', Ex2, Ex2', end_of-Form as end, more_of-Form as one}
 use Rattle.soqe_form.specs.declared.form.Block.{Block}
 

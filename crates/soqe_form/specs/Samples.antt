@@ -1,8 +1,8 @@
 -- The definitions on small cases, whose answers are plain by hand.
 use Rattle.std.specs.Prelude.{ℕ, false, [], ◌∷◌}
 use Rattle.soqe_term.specs.declared.term.Var.{Var}
-use Rattle.soqe_term.specs.declared.term.Term.{Term, Var as var}
-use Rattle.soqe_term.specs.declared.term.Terms.{Terms, Nil, Cons}
+use Rattle.soqe_term.specs.declared.term.Term.{Var as var}
+use Rattle.soqe_term.specs.declared.term.Terms.{Nil, Cons}
 use Rattle.soqe_term.specs.World.{World}
 use Rattle.soqe_form.specs.declared.form.PVar.{PVar}
 use Rattle.soqe_form.specs.declared.form.Pred.TheVariants.{Bound}

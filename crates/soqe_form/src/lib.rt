@@ -2,18 +2,47 @@
 //! quantified predicates stand.
 //!
 //! Read `specs/Truth.antt` first: the truth of a formula in a world. `specs/Sorted.antt` says which formulas are well
-//! sorted, `specs/Alike.antt` when two have one truth, `specs/Places.antt` where a block stands, and
-//! `specs/Pure.antt` what a result may contain.
+//! sorted, `specs/Alike.antt` when two have one truth, `specs/Same.antt` when they are equal up to the numbers of what is
+//! bound in them, `specs/Places.antt` where a block stands, and `specs/Pure.antt` what a result may contain.
 #![tactic(auto)]
 
 mod blocks;
+mod bound_terms;
 mod form;
+mod free_lists;
+mod free_preds;
+mod free_variables;
 pub mod laws;
+mod lists;
 pub mod make;
+mod marks;
+mod names;
+mod num_set;
+pub mod pred_laws;
+mod pred_renaming;
+mod put;
+mod renaming;
 mod replace;
+mod sameness;
+mod sorting;
+mod substitution;
 #[cfg(test)]
 mod tests;
+mod tidying;
+mod unkept;
 
 pub use blocks::first_block;
 pub use form::{Block, Form, PVar, Pred, copy_boxed};
+pub use free_preds::{has_free_pred, is_hidden, is_same_pred, mark_preds};
+pub use free_variables::free_vars;
+pub use lists::{Forms, PVars};
+pub use marks::Marks;
+pub use names::{is_free, mark_form, mark_term};
+pub use pred_renaming::{rename_pred, rename_pred_boxed};
+pub use put::put_in;
+pub use renaming::{rename, rename_boxed};
 pub use replace::replace_at;
+pub use sameness::same;
+pub use sorting::well_sorted;
+pub use substitution::{subst, subst_all};
+pub use tidying::tidy;

@@ -1,12 +1,24 @@
 //! Formulas made from boxed parts. Each takes one allocation.
 
 ghost use Rattle.std.specs.Prelude.{◌≡◌, IfOk};
+ghost use Rattle.soqe_form.specs.Constants.{constant};
 ghost use Rattle.soqe_form.specs.declared.form.Form.{Not, And, Or, Imp, Iff, All, Ex, All2, Ex2};
 
 use crate::form::{Form, PVar};
 use soqe_term::{Mem, Var};
 use sqlite_items::Boxed;
 use std::alloc::Global;
+
+/// The formula of a truth value.
+pub fn constant(alloc: Global, value: bool) -> Mem<Boxed<Form>>
+    ensures { IfOk result (λ r. r ≡ constant value) }
+{
+    if value {
+        Boxed::new(alloc, Form::True)
+    } else {
+        Boxed::new(alloc, Form::False)
+    }
+}
 
 pub fn negation(alloc: Global, f: Boxed<Form>) -> Mem<Boxed<Form>>
     ensures { IfOk result (λ r. r ≡ Not f) }

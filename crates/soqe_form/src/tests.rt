@@ -1,5 +1,10 @@
 //! Copies, first blocks and replaced parts of formulas written by hand.
-use crate::{Block, Form, PVar, Pred, copy_boxed, first_block, make, replace_at};
+mod exchanged;
+mod sameness;
+mod tidying;
+mod variables;
+
+use crate::{Block, Form, Forms, PVar, Pred, copy_boxed, first_block, make, replace_at};
 use soqe_term::{Mem, Nums, Sorts, Term, Terms, Var};
 use sqlite_items::Boxed;
 use std::alloc::Global;
@@ -165,5 +170,27 @@ fn a_part_is_replaced_at_its_place_alone(rt: HostRuntime) -> Result<(), Fail> {
         let form = replace_at(alloc, form.get(), &place, by.get())?;
         assert!(rt; is_due(alloc, &form, text)?);
     }
+    Ok(())
+}
+
+/// Whether the list has these formulas.
+fn are_listed(alloc: Global, forms: &Forms, texts: &[&[u8]]) -> Mem<bool> {
+    let mut listed = forms.len() == texts.len();
+    for (form, text) in forms.as_slice().iter().zip(texts) {
+        let is_next = is_spelled(alloc, form, text)?;
+        listed = listed && is_next;
+    }
+    Ok(listed)
+}
+
+#[test]
+fn a_list_of_formulas_is_copied(rt: HostRuntime) -> Result<(), Fail> {
+    let alloc = rt.alloc();
+    let mut forms = Forms::new(alloc);
+    forms.push(truth(alloc)?)?;
+    forms.push(two_blocks(alloc)?)?;
+    let copy = forms.copy(alloc)?;
+    forms.push(falsity(alloc)?)?;
+    assert!(rt; are_listed(alloc, &copy, &[b"T", b"|&FXTXP"])?);
     Ok(())
 }

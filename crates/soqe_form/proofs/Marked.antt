@@ -1,0 +1,113 @@
+-- What a map of marks says of each number.
+use Rattle.std.proofs.Common.{◌≡◌, ℕ, suc, ◌<◌, ◌≤◌, ◌+◌, Bool, true, false, cond, eqb, ◌||◌, List, [], ◌∷◌, ◌++◌, length, length-append, take, get_or, ⊎_elim, Option, Some, refl, sym, ◌∙◌, ap, subst, arith}
+use Rattle.std.specs.Map.{lookup, keys_of}
+use Rattle.std.specs.Option.{unwrap_or}
+use Rattle.std.specs.List.{list_any}
+use Rattle.std.proofs.lemmas.Bool.{eqb-true, eqb-false, eq-eqb, or_cases, or_left, or_right}
+use Rattle.std.proofs.lemmas.List.Folds.{list_any-append, list_any_more}
+use Rattle.std.proofs.lemmas.List.{length-map}
+use Rattle.std.proofs.lemmas.Map.Steps.{le-length_from_below}
+use Rattle.soqe_term.proofs.Choices.{same_test, bool_cases}
+use Rattle.soqe_term.specs.World.{changed}
+use Rattle.soqe_form.specs.Marks.{marked, IsLeastWithout, Adds}
+
+eqb_sym : (m n : ℕ) → eqb m n ≡ eqb n m
+eqb_sym m n = same_test (eqb m n) (eqb n m) (λ e. eq-eqb n m (sym (eqb-true m n e))) (λ e. eq-eqb m n (sym (eqb-true n m e)))
+
+mark_of : (b c mark : Bool) (o : Option Bool) → b ≡ c → unwrap_or (cond b (Some mark) o) false ≡ cond c mark (unwrap_or o false)
+mark_of true true mark o e = refl
+mark_of false false mark o e = refl
+mark_of true false mark o e = cc
+mark_of false true mark o e = cc
+
+-- the marks after one was set
+pub marked-set : (old new : List (ℕ × Bool)) (n : ℕ) (mark : Bool) → ((q : ℕ) → lookup (eqb q) new ≡ cond (eqb n q) (Some mark) (lookup (eqb q) old)) → marked new ≡ changed (marked old) n mark
+unfolding marked
+marked-set old new n mark h = λ i q. (ap (λ o. unwrap_or o false) (h q) ∙ mark_of (eqb n q) (eqb q n) mark (lookup (eqb q) old) (eqb_sym n q)) i
+
+key_step : (b : Bool) (mark : Bool) (o : Option Bool) (c : Bool) → (unwrap_or o false ≡ true → c ≡ true) → unwrap_or (cond b (Some mark) o) false ≡ true → (b || c) ≡ true
+key_step true mark o c h k = refl
+key_step false mark o c h k = h k
+
+-- a number with a mark is a key
+marked-key : (n : ℕ) (marks : List (ℕ × Bool)) → unwrap_or (lookup (eqb n) marks) false ≡ true → list_any (eqb n) (keys_of marks) ≡ true
+marked-key n [] h = h
+marked-key n (m ∷ marks) h = key_step (eqb n m.0) m.1 (lookup (eqb n) marks) (list_any (eqb n) (keys_of marks)) (marked-key n marks) h
+
+one_more : (p : ℕ → Bool) (n : ℕ) → ((k : ℕ) → k < n → p k ≡ true) → p n ≡ true → (k : ℕ) → k < suc n → p k ≡ true
+one_more p n h e k l = bool_cases (λ q. eqb k n ≡ q → p k ≡ true) (eqb k n) (λ o q. ap p (eqb-true k n q) ∙ e)
+    (λ o q. let ne : k ≡ n → ⊥ = eqb-false k n q in h k (omega arith)) refl
+
+-- where each number below the length has a mark, the length has none
+pub least_of_all : (marks : List (ℕ × Bool)) → ((k : ℕ) → k < length marks → marked marks k ≡ true) → IsLeastWithout (marked marks) (length marks)
+unfolding marked
+least_of_all marks h = record {
+  fails = bool_cases (λ q. marked marks (length marks) ≡ q → q ≡ false) (marked marks (length marks))
+      (λ o e.
+      let more : suc (length marks) ≤ length (keys_of marks) =
+      le-length_from_below (keys_of marks) (suc (length marks)) (λ k l. marked-key k marks (one_more (marked marks) (length marks) h e k l)) in
+      absurd (omega (arith, more, length-map marks (λ (e : ℕ × Bool). e.0))))
+      (λ o e. refl) refl;
+  below = h;
+}
+
+-- the same where as many numbers as there are marks were tried
+pub least_of_tried : (marks now : List (ℕ × Bool)) (count n : ℕ) → marks ≡ now → count ≡ length marks → count ≤ n → ((k : ℕ) → k < n → marked now k ≡ true) → IsLeastWithout (marked now) count
+least_of_tried marks now count n view len enough h =
+    let all : (k : ℕ) → k < length now → marked now k ≡ true = λ k l. h k (omega (arith, len, ap length view)) in
+    subst (λ m. IsLeastWithout (marked now) m) (sym (len ∙ ap length view)) (least_of_all now all)
+
+-- a number with one of two marks is one of the keys
+either_key : (n : ℕ) (a b : List (ℕ × Bool)) → (marked a n || marked b n) ≡ true → list_any (eqb n) (keys_of a ++ keys_of b) ≡ true
+unfolding marked
+either_key n a b h =
+    list_any-append (eqb n) (keys_of a) (keys_of b)
+    ∙ ⊎_elim (λ e. or_left (list_any (eqb n) (keys_of a)) (list_any (eqb n) (keys_of b)) (marked-key n a e))
+    (λ e. or_right (list_any (eqb n) (keys_of a)) (list_any (eqb n) (keys_of b)) (marked-key n b e)) (or_cases (marked a n) (marked b n) h)
+
+-- where each number below the sum of the lengths has one of two marks, the sum has neither
+pub least_of_both : (a b : List (ℕ × Bool)) (count : ℕ) → count ≡ length a + length b → ((k : ℕ) → k < count → (marked a k || marked b k) ≡ true)
+    → IsLeastWithout (λ n. marked a n || marked b n) count
+least_of_both a b count len h = record {
+  fails = bool_cases (λ q. (marked a count || marked b count) ≡ q → q ≡ false) (marked a count || marked b count)
+      (λ o e.
+      let more : suc count ≤ length (keys_of a ++ keys_of b) =
+      le-length_from_below (keys_of a ++ keys_of b) (suc count) (λ k l. either_key k a b (one_more (λ n. marked a n || marked b n) count h e k l)) in
+      absurd (omega (arith, more, length-append (keys_of a) (keys_of b), length-map a (λ (e : ℕ × Bool). e.0), length-map b (λ (e : ℕ × Bool). e.0))))
+      (λ o e. refl) refl;
+  below = h;
+}
+
+-- ---- marks that are added
+
+pub adds-none : (a : List (ℕ × Bool)) → Adds (λ n. false) a a
+adds-none a = record { is = refl }
+
+or_groups : (a b c : Bool) → (b || (a || c)) ≡ ((a || b) || c)
+or_groups true true c = refl
+or_groups true false c = refl
+or_groups false b c = refl
+
+cond_or : (b c : Bool) → cond b true c ≡ (b || c)
+cond_or true c = refl
+cond_or false c = refl
+
+pub adds-one : (a b : List (ℕ × Bool)) (x : ℕ) → marked b ≡ changed (marked a) x true → Adds (λ n. eqb n x) a b
+adds-one a b x h = record { is = h ∙ (λ i n. cond_or (eqb n x) (marked a n) i) }
+
+pub adds-both : (p q : ℕ → Bool) (a b c : List (ℕ × Bool)) → Adds p a b → Adds q b c → Adds (λ n. p n || q n) a c
+adds-both p q a b c h k = record { is = k.is ∙ (λ i n. q n || h.is i n) ∙ (λ i n. or_groups (p n) (q n) (marked a n) i) }
+
+-- the same for a test that is known by an equation
+pub adds-same : (p q : ℕ → Bool) (a b : List (ℕ × Bool)) → ((n : ℕ) → q n ≡ p n) → Adds p a b → Adds q a b
+adds-same p q a b e h = record { is = h.is ∙ (λ i n. sym (e n) i || marked a n) }
+
+pub adds-two : (p q r : ℕ → Bool) (a b c : List (ℕ × Bool)) → ((n : ℕ) → r n ≡ (p n || q n)) → Adds p a b → Adds q b c → Adds r a c
+adds-two p q r a b c e h k = adds-same (λ n. p n || q n) r a c e (adds-both p q a b c h k)
+
+-- the same for one more number of a list
+pub adds-more : (t : ℕ → ℕ → Bool) (ns : List ℕ) (i x : ℕ) (a b c : List (ℕ × Bool)) → i < length ns → x ≡ get_or ns i 0 → Adds (λ n. list_any (λ y. t y n) (take i ns)) a b
+    → Adds (t x) b c → Adds (λ n. list_any (λ y. t y n) (take (i + 1) ns)) a c
+adds-more t ns i x a b c l e h k =
+    adds-two (λ n. list_any (λ y. t y n) (take i ns)) (t x) (λ n. list_any (λ y. t y n) (take (i + 1) ns)) a b c
+    (λ n. list_any_more (λ y. t y n) ns i 0 l ∙ ap (λ y. list_any (λ y. t y n) (take i ns) || t y n) (sym e)) h k

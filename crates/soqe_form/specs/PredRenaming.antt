@@ -1,0 +1,69 @@
+-- Another number in place of a bound predicate's, and the numbers of bound predicates that stand in a formula.
+use Rattle.std.specs.Prelude.{ℕ, suc, max, eqb, Bool, false, ◌||◌, cond}
+use Rattle.soqe_form.specs.declared.form.Pred.{Pred}
+use Rattle.soqe_form.specs.declared.form.Pred.TheVariants.{Decl, Bound}
+use Rattle.soqe_form.specs.declared.form.PVar.{PVar}
+use Rattle.soqe_form.specs.declared.form.Form.{Form, True, False, Equal, Atom, Not, Not', And, And', Or, Or', Imp, Imp', Iff, Iff', All, All', Ex, Ex', All2, All2', Ex2, Ex2', end_of-Form as end, more_of-Form as one}
+use Rattle.soqe_form.specs.Free.{is_bound}
+
+-- the bound predicate n in place of the bound predicate m
+abbrev pub exchanged : ℕ → ℕ → Pred → Pred
+exchanged m n (Decl k) = Decl k
+exchanged m n (Bound k) = Bound (cond (eqb k m) n k)
+
+-- the bound predicate n in place of each free occurrence of the bound predicate m, where no binder of the formula binds n
+abbrev pub renamed_pred : ℕ → ℕ → Form → Form
+renamed_pred m n True = True
+renamed_pred m n False = False
+renamed_pred m n (Equal s t) = Equal s t
+renamed_pred m n (Atom p ts) = Atom (exchanged m n p) ts
+renamed_pred m n (Not' _ (one f end)) = Not (renamed_pred m n f)
+renamed_pred m n (And' _ (one f end) _ (one g end)) = And (renamed_pred m n f) (renamed_pred m n g)
+renamed_pred m n (Or' _ (one f end) _ (one g end)) = Or (renamed_pred m n f) (renamed_pred m n g)
+renamed_pred m n (Imp' _ (one f end) _ (one g end)) = Imp (renamed_pred m n f) (renamed_pred m n g)
+renamed_pred m n (Iff' _ (one f end) _ (one g end)) = Iff (renamed_pred m n f) (renamed_pred m n g)
+renamed_pred m n (All' x _ (one f end)) = All x (renamed_pred m n f)
+renamed_pred m n (Ex' x _ (one f end)) = Ex x (renamed_pred m n f)
+renamed_pred m n (All2' p _ (one f end)) = All2 p (cond (eqb p.num m) f (renamed_pred m n f))
+renamed_pred m n (Ex2' p _ (one f end)) = Ex2 p (cond (eqb p.num m) f (renamed_pred m n f))
+
+-- the predicate p under the number n
+abbrev pub renumbered : PVar → ℕ → PVar
+renumbered p n = record p { num = n }
+
+-- the number is that of a bound predicate, or of a binder of a predicate
+abbrev pub mentions_pred : ℕ → Form → Bool
+mentions_pred n True = false
+mentions_pred n False = false
+mentions_pred n (Equal s t) = false
+mentions_pred n (Atom p ts) = is_bound n p
+mentions_pred n (Not' _ (one f end)) = mentions_pred n f
+mentions_pred n (And' _ (one f end) _ (one g end)) = mentions_pred n f || mentions_pred n g
+mentions_pred n (Or' _ (one f end) _ (one g end)) = mentions_pred n f || mentions_pred n g
+mentions_pred n (Imp' _ (one f end) _ (one g end)) = mentions_pred n f || mentions_pred n g
+mentions_pred n (Iff' _ (one f end) _ (one g end)) = mentions_pred n f || mentions_pred n g
+mentions_pred n (All' x _ (one f end)) = mentions_pred n f
+mentions_pred n (Ex' x _ (one f end)) = mentions_pred n f
+mentions_pred n (All2' p _ (one f end)) = eqb n p.num || mentions_pred n f
+mentions_pred n (Ex2' p _ (one f end)) = eqb n p.num || mentions_pred n f
+
+-- every number from here on is not that of the predicate, if it is bound
+abbrev pub pred_above : Pred → ℕ
+pred_above (Decl k) = 0
+pred_above (Bound k) = suc k
+
+-- every number from here on is that of no bound predicate and of no binder of one
+abbrev pub preds_above : Form → ℕ
+preds_above True = 0
+preds_above False = 0
+preds_above (Equal s t) = 0
+preds_above (Atom p ts) = pred_above p
+preds_above (Not' _ (one f end)) = preds_above f
+preds_above (And' _ (one f end) _ (one g end)) = max (preds_above f) (preds_above g)
+preds_above (Or' _ (one f end) _ (one g end)) = max (preds_above f) (preds_above g)
+preds_above (Imp' _ (one f end) _ (one g end)) = max (preds_above f) (preds_above g)
+preds_above (Iff' _ (one f end) _ (one g end)) = max (preds_above f) (preds_above g)
+preds_above (All' x _ (one f end)) = preds_above f
+preds_above (Ex' x _ (one f end)) = preds_above f
+preds_above (All2' p _ (one f end)) = max (suc p.num) (preds_above f)
+preds_above (Ex2' p _ (one f end)) = max (suc p.num) (preds_above f)

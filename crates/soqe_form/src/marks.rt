@@ -1,0 +1,87 @@
+//! Marks on numbers, kept so that each is set and read at once.
+ghost use Rattle.std.specs.Prelude.{◌≡◌, ◌<◌, ◌||◌, ℕ, OnOk, true, false};
+ghost use Rattle.soqe_term.specs.World.{changed};
+ghost use Rattle.soqe_form.specs.Marks.{marked, IsLeastWithout};
+
+use indexmap::IndexMap;
+use soqe_term::Mem;
+use std::alloc::Global;
+use std::marker::Model;
+
+/// Which numbers have a mark. Contracts ask it by `marked`.
+#[derive(Drop)]
+pub struct Marks {
+    marks: IndexMap<u64, bool>,
+}
+
+impl Model for Marks {
+    ghost use Rattle.std.specs.Prelude.{List, ℕ, Bool};
+
+    ghost Value = { List (ℕ × Bool) };
+
+    ghost view = { λ m. m.marks.entries };
+}
+
+impl Marks {
+    /// No number has a mark. It takes no memory.
+    pub fn new(alloc: Global) -> Marks
+        ensures { marked result ≡ (λ n. false) }
+    {
+        Marks {
+            marks: IndexMap::new(alloc),
+        }
+    }
+
+    /// Whether the number has a mark. It takes no memory.
+    pub fn has(&self, n: u64) -> bool
+        ensures { result ≡ marked self.now n }
+    {
+        match self.marks.get(&n) {
+            Some(mark) => *mark,
+            None => false,
+        }
+    }
+
+    /// Sets or takes away the mark of a number.
+    pub fn set(&mut self, n: u64, mark: bool) -> Mem<()>
+        ensures { OnOk result (marked self.new ≡ changed (marked self.old) n mark) }
+    {
+        self.marks.insert(n, mark)?;
+        Ok(())
+    }
+
+    /// The least number without a mark. It takes no memory.
+    pub fn least_unmarked(&self) -> u64
+        ensures { IsLeastWithout (marked self.now) result }
+    {
+        self.least_unmarked_from(0)
+    }
+
+    /// The least number without a mark, where all numbers below `from` have one: so a search can begin where an earlier
+    /// one ended. It takes no memory.
+    pub fn least_unmarked_from(&self, from: u64) -> u64
+        requires { (k : ℕ) → k < from → marked self.now k ≡ true }
+        ensures { IsLeastWithout (marked self.now) result }
+    {
+        let count = self.marks.len() as u64;
+        for n in from..count {
+            if !self.has(n) {
+                return n;
+            }
+        }
+        count
+    }
+
+    /// The least number that has a mark neither here nor there. It takes no memory.
+    pub fn least_unmarked_with(&self, other: &Marks) -> u64
+        ensures { IsLeastWithout (λ n. marked self.now n || marked other.now n) result }
+    {
+        let count = self.marks.len() as u64 + other.marks.len() as u64;
+        for n in 0..count {
+            if !self.has(n) && !other.has(n) {
+                return n;
+            }
+        }
+        count
+    }
+}

@@ -1,0 +1,88 @@
+//! Tidy forms of formulas written by hand.
+use crate::{Form, PVar, Pred, make, tidy};
+use soqe_term::{Mem, Nums, Sorts, Term, Terms, Var};
+use sqlite_items::Boxed;
+use std::alloc::Global;
+use std::test::Fail;
+
+fn variable(num: u64) -> Var {
+    Var { num, sort: 0 }
+}
+
+/// `all x. all y. m = n`, by the numbers of its two binders and its two variables.
+fn quantified(alloc: Global, nums: [u64; 4]) -> Mem<Boxed<Form>> {
+    let [x, y, m, n] = nums;
+    let body = Form::Equal(Term::Var(variable(m)), Term::Var(variable(n)));
+    let body = Boxed::new(alloc, body)?;
+    let body = make::for_all(alloc, variable(y), body)?;
+    make::for_all(alloc, variable(x), body)
+}
+
+fn numbers_below(x: Var, form: &Form) -> Option<[u64; 4]> {
+    match form {
+        Form::All(y, body) => match body.get() {
+            Form::Equal(Term::Var(m), Term::Var(n)) => Some([x.num, y.num, m.num, n.num]),
+            _ => None,
+        },
+        _ => None,
+    }
+}
+
+/// The numbers of such a formula.
+fn numbers(form: &Form) -> Option<[u64; 4]> {
+    match form {
+        Form::All(x, body) => numbers_below(*x, body.get()),
+        _ => None,
+    }
+}
+
+/// Whether the formula of the first numbers becomes that of the second ones.
+fn becomes(alloc: Global, old: [u64; 4], keep: &[u64], new: [u64; 4]) -> Mem<bool> {
+    let keep = Nums::from_vec(keep.to_vec(alloc)?);
+    let form = quantified(alloc, old)?;
+    let form = tidy(alloc, form.get(), &keep)?;
+    Ok(numbers(form.get()) == Some(new))
+}
+
+/// Whether this is `ex2 P7. P7`.
+fn is_block(form: &Form) -> bool {
+    match form {
+        Form::Ex2(p, body) => match body.get() {
+            Form::Atom(Pred::Bound(n), _) => p.num == 7 && *n == 7,
+            _ => false,
+        },
+        _ => false,
+    }
+}
+
+#[test]
+fn an_outer_binder_has_its_number_first(rt: HostRuntime) -> Result<(), Fail> {
+    let alloc = rt.alloc();
+    let cases: [([u64; 4], &[u64], [u64; 4]); 7] = [
+        ([5, 6, 5, 6], &[], [0, 1, 0, 1]),
+        ([0, 1, 0, 1], &[], [0, 1, 0, 1]),
+        ([5, 6, 6, 6], &[], [0, 0, 0, 0]),
+        ([5, 5, 5, 5], &[], [0, 0, 0, 0]),
+        ([5, 6, 5, 6], &[3, 0], [1, 2, 1, 2]),
+        ([5, 6, 0, 6], &[], [1, 1, 0, 1]),
+        ([5, 6, 6, 9], &[1, 0], [2, 2, 2, 9]),
+    ];
+    for (old, keep, new) in cases {
+        assert!(rt; becomes(alloc, old, keep, new)?);
+    }
+    Ok(())
+}
+
+#[test]
+fn binders_of_predicates_stay(rt: HostRuntime) -> Result<(), Fail> {
+    let alloc = rt.alloc();
+    let atom = Boxed::new(alloc, Form::Atom(Pred::Bound(7), Terms::Nil))?;
+    let pred = PVar {
+        num: 7,
+        args: Sorts::new(alloc),
+    };
+    let block = make::exists_table(alloc, pred, atom)?;
+    let block = tidy(alloc, block.get(), &Nums::new(alloc))?;
+    assert!(rt; is_block(block.get()));
+    Ok(())
+}

@@ -1,0 +1,72 @@
+//! Free variables, sorting and substitution on formulas written by hand.
+ghost use Rattle.std.specs.Prelude.{◌≡◌};
+
+use crate::{Form, PVars, free_vars, make, subst, well_sorted};
+use soqe_term::{Mem, Signature, SkolemSigs, Term, Var, Vars};
+use sqlite_items::Boxed;
+use std::alloc::Global;
+use std::test::Fail;
+
+fn var(num: u64) -> Var
+    ensures { result.sort ≡ 0 }
+{
+    Var { num, sort: 0 }
+}
+
+fn equal(alloc: Global, m: u64, n: u64) -> Mem<Boxed<Form>> {
+    Boxed::new(alloc, Form::Equal(Term::Var(var(m)), Term::Var(var(n))))
+}
+
+/// `x1 = x2 & all x1. x1 = x3`
+fn with_binder(alloc: Global) -> Mem<Boxed<Form>> {
+    let left = equal(alloc, 1, 2)?;
+    let right = make::for_all(alloc, var(1), equal(alloc, 1, 3)?)?;
+    make::conjunction(alloc, left, right)
+}
+
+/// The number of a quantified equation's binder and of its two variables.
+fn numbers(form: &Form) -> Option<(u64, u64, u64)> {
+    match form {
+        Form::All(x, body) => match body.get() {
+            Form::Equal(Term::Var(y), Term::Var(z)) => Some((x.num, y.num, z.num)),
+            _ => None,
+        },
+        _ => None,
+    }
+}
+
+#[test]
+fn free_variables_are_listed_once(rt: HostRuntime) -> Result<(), Fail> {
+    let alloc = rt.alloc();
+    let form = with_binder(alloc)?;
+    let vars = free_vars(alloc, form.get())?;
+    assert!(rt; vars.as_slice() == [var(1), var(2), var(3)].as_slice());
+    Ok(())
+}
+
+#[test]
+fn a_binder_is_renamed_where_it_would_catch(rt: HostRuntime) -> Result<(), Fail> {
+    let alloc = rt.alloc();
+    let form = make::for_all(alloc, var(1), equal(alloc, 0, 1)?)?;
+    let renamed = subst(alloc, form.get(), var(0), &Term::Var(var(1)))?;
+    assert!(rt; numbers(renamed.get()) == Some((2, 1, 2)));
+    let kept = subst(alloc, form.get(), var(0), &Term::Var(var(3)))?;
+    assert!(rt; numbers(kept.get()) == Some((1, 3, 1)));
+    Ok(())
+}
+
+#[test]
+fn each_variable_has_a_sort(rt: HostRuntime) -> Result<(), Fail> {
+    let alloc = rt.alloc();
+    let signature = Signature::new(alloc)?;
+    let skolems = SkolemSigs::new(alloc);
+    let preds = PVars::new(alloc);
+    let mut free = Vars::new(alloc);
+    let form = with_binder(alloc)?;
+    assert!(rt; !well_sorted(&signature, &skolems, &free, &preds, form.get()));
+    free.push(var(1))?;
+    free.push(var(2))?;
+    free.push(var(3))?;
+    assert!(rt; well_sorted(&signature, &skolems, &free, &preds, form.get()));
+    Ok(())
+}
