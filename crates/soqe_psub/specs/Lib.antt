@@ -1,0 +1,3 @@
+pub mod PredSubst
+pub mod PredSubstLaws
+pub mod Replaces
