@@ -1,0 +1,12 @@
+use Rattle.std.proofs.Common.{◌+◌, ◌*◌}
+use Rattle.soqe_simp.specs.Weight.{weight}
+use Rattle.soqe_simp.proofs.simplifying.+simplify.Given as goal
+
+abbrev pub decreases-simplify : goal.decreases-simplify
+decreases-simplify l = 3 * weight l.form.now + 2
+
+abbrev pub decreases-simplify_children : goal.decreases-simplify_children
+decreases-simplify_children l = 3 * weight l.form.now + 1
+
+abbrev pub decreases-settle : goal.decreases-settle
+decreases-settle l = 3 * weight l.form

@@ -1,0 +1,11 @@
+pub mod Shapes
+pub mod Weight
+pub mod Conjuncts
+pub mod Passed
+pub mod Rows
+pub mod Keeps
+pub mod Step
+pub mod Simplified
+pub mod Normal
+pub mod Simplifies
+pub mod Ready

@@ -1,0 +1,16 @@
+//! The simplifier: 37 rows that make a formula lighter and keep its truth.
+//!
+//! Read `specs/Rows.antt` first: each row, and the table of them. `specs/Step.antt` says which row applies at the root of a
+//! formula, `specs/Simplified.antt` what is left when no row applies any more, and `specs/Normal.antt` what that means.
+#![tactic(auto)]
+
+mod conjuncts;
+pub mod laws;
+mod rewriting;
+mod rows;
+mod simplifying;
+#[cfg(test)]
+mod tests;
+
+pub use rewriting::{Rewritten, step};
+pub use simplifying::simplify;

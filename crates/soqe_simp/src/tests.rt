@@ -1,0 +1,180 @@
+//! Formulas written behind their parts: `d` and `p` are atoms without arguments of the declared and the bound predicate 0;
+//! `0` to `2` are atoms of the declared predicate 0 with that variable; `u`, `v` and `w` are `x0 = x1`, `x1 = x0` and
+//! `x0 = x0`; `t` and `f` are true and false; `~`, `&`, `|`, `>` and `=` join what stands before them; `a` and `b` are `all`
+//! with the variables 0 and 1, `e` is `ex` with the variable 0; `A` and `E` bind the predicate 0.
+use crate::{simplify, step};
+use soqe_form::make::{
+    conjunction, disjunction, equivalence, exists, exists_table, for_all, for_all_tables,
+    implication, negation,
+};
+use soqe_form::{Form, PVar, Pred, same};
+use soqe_term::{Mem, Sorts, Term, Terms, Var};
+use sqlite_items::Boxed;
+use std::alloc::Global;
+use std::test::Fail;
+
+fn x(num: u64) -> Var {
+    Var { num, sort: 0 }
+}
+
+fn binder(alloc: Global) -> PVar {
+    PVar {
+        num: 0,
+        args: Sorts::new(alloc),
+    }
+}
+
+/// The atom of the variable with the digit.
+fn atom_of(alloc: Global, digit: u8) -> Mem<Boxed<Form>> {
+    let first = Boxed::new(alloc, Term::Var(x(u64::from(digit & 3))))?;
+    let rest = Boxed::new(alloc, Terms::Nil)?;
+    Boxed::new(alloc, Form::Atom(Pred::Decl(0), Terms::Cons(first, rest)))
+}
+
+fn last(alloc: Global, stack: &mut Vec<Boxed<Form>>) -> Mem<Boxed<Form>> {
+    match stack.pop() {
+        Some(f) => Ok(f),
+        None => Boxed::new(alloc, Form::False),
+    }
+}
+
+fn joined(alloc: Global, sign: u8, f: Boxed<Form>, g: Boxed<Form>) -> Mem<Boxed<Form>> {
+    match sign {
+        b'&' => conjunction(alloc, f, g),
+        b'|' => disjunction(alloc, f, g),
+        b'>' => implication(alloc, f, g),
+        _ => equivalence(alloc, f, g),
+    }
+}
+
+fn bound(alloc: Global, sign: u8, f: Boxed<Form>) -> Mem<Boxed<Form>> {
+    match sign {
+        b'a' => for_all(alloc, x(0), f),
+        b'b' => for_all(alloc, x(1), f),
+        b'e' => exists(alloc, x(0), f),
+        b'A' => for_all_tables(alloc, binder(alloc), f),
+        b'E' => exists_table(alloc, binder(alloc), f),
+        _ => negation(alloc, f),
+    }
+}
+
+fn next(alloc: Global, sign: u8, stack: &mut Vec<Boxed<Form>>) -> Mem<Boxed<Form>> {
+    match sign {
+        b't' => Boxed::new(alloc, Form::True),
+        b'f' => Boxed::new(alloc, Form::False),
+        b'd' => Boxed::new(alloc, Form::Atom(Pred::Decl(0), Terms::Nil)),
+        b'p' => Boxed::new(alloc, Form::Atom(Pred::Bound(0), Terms::Nil)),
+        b'u' => Boxed::new(alloc, Form::Equal(Term::Var(x(0)), Term::Var(x(1)))),
+        b'v' => Boxed::new(alloc, Form::Equal(Term::Var(x(1)), Term::Var(x(0)))),
+        b'w' => Boxed::new(alloc, Form::Equal(Term::Var(x(0)), Term::Var(x(0)))),
+        b'0'..=b'2' => atom_of(alloc, sign),
+        b'&' | b'|' | b'>' | b'=' => {
+            let g = last(alloc, stack)?;
+            let f = last(alloc, stack)?;
+            joined(alloc, sign, f, g)
+        }
+        _ => {
+            let f = last(alloc, stack)?;
+            bound(alloc, sign, f)
+        }
+    }
+}
+
+fn made(alloc: Global, text: &[u8]) -> Mem<Boxed<Form>> {
+    let mut stack = Vec::new(alloc);
+    for sign in text {
+        let f = next(alloc, *sign, &mut stack)?;
+        stack.push(f)?;
+    }
+    last(alloc, &mut stack)
+}
+
+/// Whether the step at the root is by this row, 0 for none, and gives this formula.
+fn steps(alloc: Global, text: &[u8], row: u8, wanted: &[u8]) -> Mem<bool> {
+    let f = made(alloc, text)?;
+    let g = made(alloc, wanted)?;
+    match step(alloc, f.get())? {
+        None => Ok(row == 0),
+        Some(made) => Ok(made.row == row && same(made.form.get(), g.get())),
+    }
+}
+
+fn simplifies(alloc: Global, text: &[u8], wanted: &[u8]) -> Mem<bool> {
+    let f = made(alloc, text)?;
+    let g = made(alloc, wanted)?;
+    let simple = simplify(alloc, f.get())?;
+    Ok(same(simple.get(), g.get()))
+}
+
+#[test]
+fn applies_rows(rt: HostRuntime) -> Result<(), Fail> {
+    let alloc = rt.alloc();
+    let cases: [(&[u8], u8, &[u8]); 44] = [
+        (b"t~", 1, b"f"),
+        (b"f~", 2, b"t"),
+        (b"d~~", 3, b"d"),
+        (b"w", 4, b"t"),
+        (b"td&", 5, b"d"),
+        (b"dt&", 6, b"d"),
+        (b"fd&", 7, b"f"),
+        (b"df&", 8, b"f"),
+        (b"dd&", 9, b"d"),
+        (b"dd~&", 10, b"f"),
+        (b"d~d&", 11, b"f"),
+        (b"td|", 12, b"t"),
+        (b"dt|", 13, b"t"),
+        (b"fd|", 14, b"d"),
+        (b"df|", 15, b"d"),
+        (b"dd|", 16, b"d"),
+        (b"dd~|", 17, b"t"),
+        (b"d~d|", 18, b"t"),
+        (b"d~0|", 19, b"d0>"),
+        (b"d0~|", 20, b"0d>"),
+        (b"td>", 21, b"d"),
+        (b"fd>", 22, b"t"),
+        (b"dt>", 23, b"t"),
+        (b"df>", 24, b"d~"),
+        (b"dd>", 25, b"t"),
+        (b"d01>>", 26, b"d0&1>"),
+        (b"d0~>", 27, b"d0&~"),
+        (b"td=", 28, b"d"),
+        (b"dt=", 29, b"d"),
+        (b"fd=", 30, b"d~"),
+        (b"df=", 31, b"d~"),
+        (b"dd=", 32, b"t"),
+        (b"1a", 33, b"1"),
+        (b"dE", 34, b"d"),
+        (b"u0&e", 35, b"t1&"),
+        (b"0v&e", 35, b"1t&"),
+        (b"u0&~a", 36, b"t1&~"),
+        (b"u0>a", 37, b"t1>"),
+        (b"01&", 0, b"t"),
+        (b"0e", 0, b"t"),
+        (b"pA", 0, b"t"),
+        (b"t~d&", 0, b"t"),
+        (b"v0>ba", 0, b"t"),
+        (b"w0&e", 0, b"t"),
+    ];
+    for (text, row, wanted) in cases {
+        assert!(rt; steps(alloc, text, row, wanted)?);
+    }
+    Ok(())
+}
+
+#[test]
+fn makes_simple(rt: HostRuntime) -> Result<(), Fail> {
+    let alloc = rt.alloc();
+    let cases: [(&[u8], &[u8]); 7] = [
+        (b"d", b"d"),
+        (b"t~d|", b"d"),
+        (b"d01>>~~", b"d0&1>"),
+        (b"u0&e", b"1"),
+        (b"dd~&0&E", b"f"),
+        (b"v0>ba", b"0a"),
+        (b"d0>~1~|", b"d0>1&~"),
+    ];
+    for (text, wanted) in cases {
+        assert!(rt; simplifies(alloc, text, wanted)?);
+    }
+    Ok(())
+}
