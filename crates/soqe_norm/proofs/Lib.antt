@@ -4,3 +4,11 @@ pub mod Risen
 pub mod Replaced
 pub mod SortedValues
 pub mod Blocks
+pub mod Counts
+pub mod Nnfs
+pub mod Renumbered
+pub mod Aparts
+pub mod Choosing
+pub mod Quantifieds
+pub mod Prenexes
+pub mod PrenexNames

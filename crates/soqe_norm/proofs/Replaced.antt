@@ -14,7 +14,8 @@ use Rattle.soqe_form.specs.Boxes.{boxes}
 use Rattle.soqe_form.specs.Truth.{truth, holds, alike}
 use Rattle.soqe_form.specs.Free.{free, free_pred, is_bound}
 use Rattle.soqe_form.specs.Places.{first_block, within, leftmost, innermost}
-use Rattle.soqe_norm.specs.Valued.{constant, valued}
+use Rattle.soqe_form.specs.Constants.{constant}
+use Rattle.soqe_norm.specs.Valued.{valued}
 
 pub eqb-swap : (m n : ℕ) (b : Bool) → eqb m n ≡ b → eqb n m ≡ b
 eqb-swap m n true e = eq-eqb n m (sym (eqb-true m n e))

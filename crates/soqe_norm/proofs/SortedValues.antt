@@ -12,7 +12,8 @@ use Rattle.soqe_form.specs.declared.form.Form.{Form, True, False, Equal, Atom, N
 use Rattle.soqe_form.specs.Boxes.{boxes}
 use Rattle.soqe_form.specs.Free.{is_bound}
 use Rattle.soqe_form.specs.Sorted.{sorted}
-use Rattle.soqe_norm.specs.Valued.{constant, valued}
+use Rattle.soqe_form.specs.Constants.{constant}
+use Rattle.soqe_norm.specs.Valued.{valued}
 use Rattle.soqe_norm.proofs.Replaced.{eqb-swap}
 
 module _ (m : ℕ) (v : Bool) (kinds : List ℕ) where

@@ -3,3 +3,9 @@ pub mod Passes
 pub mod Valued
 pub mod Rises
 pub mod Laws
+pub mod Nnf
+pub mod NnfLaws
+pub mod Apart
+pub mod ApartLaws
+pub mod Prenex
+pub mod PrenexLaws

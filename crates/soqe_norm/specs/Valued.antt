@@ -5,12 +5,9 @@ use Rattle.soqe_form.specs.declared.form.Pred.{Pred}
 use Rattle.soqe_form.specs.declared.form.Pred.TheVariants.{Bound}
 use Rattle.soqe_form.specs.declared.form.Block.{Block}
 use Rattle.soqe_form.specs.declared.form.Form.{Form, True, False, Equal, Atom, Not, Not', And, And', Or, Or', Imp, Imp', Iff, Iff', All, All', Ex, Ex', All2, All2', Ex2, Ex2', end_of-Form as end, more_of-Form as one}
+use Rattle.soqe_form.specs.Constants.{constant}
 use Rattle.soqe_form.specs.Free.{is_bound}
 use Rattle.soqe_norm.specs.Signs.{signs_of}
-
--- the formula of a truth value
-abbrev pub constant : Bool → Form
-constant v = cond v True False
 
 -- the formula with a truth value for each free atom of the bound predicate m
 abbrev pub valued : ℕ → Bool → Form → Form

@@ -1,6 +1,10 @@
 //! Formulas written behind their parts: `p`, `q` and `d` are atoms of the bound predicates 0 and 1 and of the declared
-//! predicate 0, `t` and `f` are true and false; `~`, `&`, `|`, `>` and `=` join what stands before them; `a` and `e` bind
-//! a variable; `A` and `E` bind the predicate 0, `B` binds the predicate 1.
+//! predicate 0, and `0` to `3` are atoms of the declared predicate 0 with that variable; `t` and `f` are true and false;
+//! `~`, `&`, `|`, `>` and `=` join what stands before them; `a`, `b`, `c` and `g` are `all` with the variables 0 to 3,
+//! and `e`, `x`, `y` and `z` are `ex`; `A` and `E` bind the predicate 0, `B` binds the predicate 1.
+use crate::apart::apart;
+use crate::nnf::nnf;
+use crate::prenex::prenex;
 use crate::signs::{first_signs, signs};
 use crate::valued::{value_for, valued};
 use soqe_form::make::{
@@ -8,7 +12,7 @@ use soqe_form::make::{
     implication, negation,
 };
 use soqe_form::{Block, Form, PVar, Pred};
-use soqe_term::{Mem, Nums, Sorts, Terms, Var};
+use soqe_term::{Mem, Nums, Sorts, Term, Terms, Var};
 use sqlite_items::Boxed;
 use std::alloc::Global;
 use std::test::Fail;
@@ -24,6 +28,17 @@ fn binder(alloc: Global, num: u64) -> PVar {
 
 fn atom(alloc: Global, pred: Pred) -> Mem<Boxed<Form>> {
     Boxed::new(alloc, Form::Atom(pred, Terms::Nil))
+}
+
+/// The atom of the variable with the digit.
+fn atom_of(alloc: Global, digit: u8) -> Mem<Boxed<Form>> {
+    let x = Var {
+        num: u64::from(digit & 3),
+        sort: 0,
+    };
+    let first = Boxed::new(alloc, Term::Var(x))?;
+    let rest = Boxed::new(alloc, Terms::Nil)?;
+    Boxed::new(alloc, Form::Atom(Pred::Decl(0), Terms::Cons(first, rest)))
 }
 
 fn last(alloc: Global, stack: &mut Vec<Boxed<Form>>) -> Mem<Boxed<Form>> {
@@ -43,10 +58,15 @@ fn joined(alloc: Global, sign: u8, f: Boxed<Form>, g: Boxed<Form>) -> Mem<Boxed<
 }
 
 fn bound(alloc: Global, sign: u8, f: Boxed<Form>) -> Mem<Boxed<Form>> {
-    let x = Var { num: 0, sort: 0 };
     match sign {
-        b'a' => for_all(alloc, x, f),
-        b'e' => exists(alloc, x, f),
+        b'a' => for_all(alloc, Var { num: 0, sort: 0 }, f),
+        b'b' => for_all(alloc, Var { num: 1, sort: 0 }, f),
+        b'c' => for_all(alloc, Var { num: 2, sort: 0 }, f),
+        b'g' => for_all(alloc, Var { num: 3, sort: 0 }, f),
+        b'e' => exists(alloc, Var { num: 0, sort: 0 }, f),
+        b'x' => exists(alloc, Var { num: 1, sort: 0 }, f),
+        b'y' => exists(alloc, Var { num: 2, sort: 0 }, f),
+        b'z' => exists(alloc, Var { num: 3, sort: 0 }, f),
         b'A' => for_all_tables(alloc, binder(alloc, 0), f),
         b'B' => for_all_tables(alloc, binder(alloc, 1), f),
         b'E' => exists_table(alloc, binder(alloc, 0), f),
@@ -61,6 +81,7 @@ fn next(alloc: Global, sign: u8, stack: &mut Vec<Boxed<Form>>) -> Mem<Boxed<Form
         b'p' => atom(alloc, P),
         b'q' => atom(alloc, Pred::Bound(1)),
         b'd' => atom(alloc, Pred::Decl(0)),
+        b'0'..=b'3' => atom_of(alloc, sign),
         b'&' | b'|' | b'>' | b'=' => {
             let g = last(alloc, stack)?;
             let f = last(alloc, stack)?;
@@ -87,6 +108,25 @@ fn put(out: &mut Vec<u8>, sign: u8) -> Mem<()> {
     Ok(())
 }
 
+/// The sign of the number among four.
+fn sign_of(num: u64, signs: [u8; 4]) -> u8 {
+    if num < 4 { signs[num as usize] } else { b'?' }
+}
+
+fn show_atom(out: &mut Vec<u8>, pred: &Pred, terms: &Terms) -> Mem<()> {
+    match terms {
+        Terms::Nil => show_pred(out, pred),
+        Terms::Cons(first, _) => show_variable(out, first.get()),
+    }
+}
+
+fn show_variable(out: &mut Vec<u8>, term: &Term) -> Mem<()> {
+    match term {
+        Term::Var(x) => put(out, sign_of(x.num, [b'0', b'1', b'2', b'3'])),
+        Term::App(_, _, _) => put(out, b'?'),
+    }
+}
+
 fn show_pred(out: &mut Vec<u8>, pred: &Pred) -> Mem<()> {
     put(
         out,
@@ -103,7 +143,7 @@ fn show(out: &mut Vec<u8>, form: &Form) -> Mem<()> {
         Form::True => put(out, b't'),
         Form::False => put(out, b'f'),
         Form::Equal(_, _) => put(out, b'?'),
-        Form::Atom(p, _) => show_pred(out, p),
+        Form::Atom(p, terms) => show_atom(out, p, terms),
         Form::Not(f) => {
             show(out, f.get())?;
             put(out, b'~')
@@ -128,13 +168,13 @@ fn show(out: &mut Vec<u8>, form: &Form) -> Mem<()> {
             show(out, g.get())?;
             put(out, b'=')
         }
-        Form::All(_, f) => {
+        Form::All(x, f) => {
             show(out, f.get())?;
-            put(out, b'a')
+            put(out, sign_of(x.num, [b'a', b'b', b'c', b'g']))
         }
-        Form::Ex(_, f) => {
+        Form::Ex(x, f) => {
             show(out, f.get())?;
-            put(out, b'e')
+            put(out, sign_of(x.num, [b'e', b'x', b'y', b'z']))
         }
         Form::All2(p, f) => {
             show(out, f.get())?;
@@ -230,5 +270,104 @@ fn replaces_atoms(rt: HostRuntime) -> Result<(), Fail> {
         show(&mut out, g.get())?;
         assert_eq!(rt; out.as_slice(), result);
     }
+    Ok(())
+}
+
+#[test]
+fn makes_normal_forms(rt: HostRuntime) -> Result<(), Fail> {
+    let alloc = rt.alloc();
+    // The formula, its normal form, and that of its negation.
+    let cases: [(&[u8], &[u8], &[u8]); 10] = [
+        (b"t", b"t", b"f"),
+        (b"f", b"f", b"t"),
+        (b"p", b"p", b"p~"),
+        (b"p~~~", b"p~", b"p"),
+        (b"pq&", b"pq&", b"p~q~|"),
+        (b"pq~|", b"pq~|", b"p~q&"),
+        (b"pq>", b"p~q|", b"pq~&"),
+        (b"pq=", b"p~q|pq~|&", b"pq~&p~q&|"),
+        (b"pa~", b"p~e", b"pa"),
+        (b"pq>eE", b"p~q|eE", b"pq~&aA"),
+    ];
+    for (text, form, of_negation) in cases {
+        let f = made(alloc, text)?;
+        for (negated, result) in [(false, form), (true, of_negation)] {
+            let g = nnf(alloc, f.get(), negated)?;
+            let mut out = Vec::new(alloc);
+            show(&mut out, g.get())?;
+            assert_eq!(rt; out.as_slice(), result);
+        }
+    }
+    Ok(())
+}
+
+/// Whether the formula is shown as this text.
+fn reads(alloc: Global, form: &Form, text: &[u8]) -> Mem<bool> {
+    let mut out = Vec::new(alloc);
+    show(&mut out, form)?;
+    Ok(bytes_equal(out.as_slice(), text))
+}
+
+fn bytes_equal(a: &[u8], b: &[u8]) -> bool {
+    a == b
+}
+
+fn becomes_apart(alloc: Global, text: &[u8], kept: &[u64], answer: &[u8]) -> Mem<bool> {
+    let keep = Nums::from_vec(Vec::from_slice(alloc, kept)?);
+    let form = made(alloc, text)?;
+    let made = apart(alloc, form.get(), &keep)?;
+    reads(alloc, made.get(), answer)
+}
+
+#[test]
+fn makes_variables_distinct(rt: HostRuntime) -> Result<(), Fail> {
+    let alloc = rt.alloc();
+    // The formula, the numbers to keep out, and the result.
+    let cases: [(&[u8], &[u64], &[u8]); 8] = [
+        (b"0a", &[], b"0a"),
+        (b"0a", &[0, 2], b"1b"),
+        (b"0a0a&", &[], b"0a1b&"),
+        (b"0a0|", &[], b"1b0|"),
+        (b"0ea", &[], b"1xa"),
+        (b"0a0e1x&&", &[], b"0a2y1x&&"),
+        (b"0a0b~>", &[1], b"2c0g~>"),
+        (b"0a0aE=", &[], b"0a1bE="),
+    ];
+    let mut right = true;
+    for (text, kept, result) in cases {
+        if !becomes_apart(alloc, text, kept, result)? {
+            right = false;
+        }
+    }
+    assert!(rt; right);
+    Ok(())
+}
+
+fn becomes_prenex(alloc: Global, text: &[u8], answer: &[u8]) -> Mem<bool> {
+    let form = made(alloc, text)?;
+    let made = prenex(alloc, form.get())?;
+    reads(alloc, made.get(), answer)
+}
+
+#[test]
+fn draws_quantifiers_out(rt: HostRuntime) -> Result<(), Fail> {
+    let alloc = rt.alloc();
+    // The formula, and the result.
+    let cases: [(&[u8], &[u8]); 7] = [
+        (b"0a", b"0a"),
+        (b"0a0e&", b"01&xa"),
+        (b"0e0a|", b"01|be"),
+        (b"0e1|a", b"21|ya"),
+        (b"0a~0a&", b"0a~1&b"),
+        (b"0a0a>", b"0a1b>"),
+        (b"0a1bE&e", b"21bE&ce"),
+    ];
+    let mut right = true;
+    for (text, result) in cases {
+        if !becomes_prenex(alloc, text, result)? {
+            right = false;
+        }
+    }
+    assert!(rt; right);
     Ok(())
 }

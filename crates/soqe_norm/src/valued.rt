@@ -3,11 +3,11 @@
 
 ghost use Rattle.std.specs.Prelude.{◌≡◌, eqb, IfOk};
 ghost use Rattle.soqe_form.specs.Free.{is_bound};
-ghost use Rattle.soqe_norm.specs.Valued.{constant as constant_of, valued as with_value, value_by as value_from, value_for as value_of};
+ghost use Rattle.soqe_norm.specs.Valued.{valued as with_value, value_by as value_from, value_for as value_of};
 
 use crate::signs::signs;
 use soqe_form::make::{
-    conjunction, disjunction, equivalence, exists, exists_table, for_all, for_all_tables,
+    conjunction, constant, disjunction, equivalence, exists, exists_table, for_all, for_all_tables,
     implication, negation,
 };
 use soqe_form::{Block, Form, PVar, Pred, copy_boxed};
@@ -54,16 +54,6 @@ fn hides(binder: &PVar, pred: u64) -> bool
     ensures { result ≡ eqb pred binder.now.num }
 {
     pred == binder.num
-}
-
-fn constant(alloc: Global, value: bool) -> Mem<Boxed<Form>>
-    ensures { IfOk result (λ r. r ≡ constant_of value) }
-{
-    if value {
-        Boxed::new(alloc, Form::True)
-    } else {
-        Boxed::new(alloc, Form::False)
-    }
 }
 
 /// The formula with the truth value for each free atom of the bound predicate. It allocates each node anew.
