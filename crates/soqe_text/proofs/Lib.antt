@@ -1,6 +1,7 @@
+mod Bindings
+mod Declarings
+pub mod Entries
 mod Names
-mod OneSmall
-mod Readings
 mod Scopes
-pub mod SmallSorted
-mod Sortedness
+mod SpelledSorted
+mod Spelling

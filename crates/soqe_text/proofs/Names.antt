@@ -1,27 +1,23 @@
--- What a look-up says of a new name, and of the meaning of a name.
+-- What a look-up says of a new name.
 use Rattle.std.specs.Prelude.{ℕ, zero, suc, ◌≡◌, ◌<◌, ◌≤◌, ◌+◌, ◌&&◌, ◌||◌, ◌==◌, Bool, true, false, cond, not, List, [], ◌∷◌, ◌++◌, length, take, drop, Option, Some, None, Err, is_some, slice_get, slice_index, refl}
 use Rattle.std.proofs.Common.{sym, ◌∙◌, ap, arith, true≢false, subst}
-use Rattle.soqe_text.specs.declared.refusal.Refusal.{Refusal}
-use Rattle.soqe_text.specs.Refusals.{OnRefused, refusal_for}
+use Rattle.soqe_text.specs.declared.new_names.NameFault.{NameFault}
 use Rattle.std.proofs.lemmas.Option.{none-some, slice_get_within}
-use Rattle.std.proofs.lemmas.Bool.{cond-true, cond-false, false_from_ne_true}
+use Rattle.std.proofs.lemmas.Bool.{false_from_ne_true}
 use Rattle.std.proofs.lemmas.Iterator.Adapters.{position_from-zero}
 use Rattle.std.specs.Char.{is_ascii_alphabetic, is_ascii_digit}
 use Rattle.std.specs.List.{position_from, list_all}
 use Rattle.std.specs.Str.{bytes_eq, IsUtf8}
 use Rattle.std.proofs.lemmas.Str.{IsUtf8-from_ascii}
 use Rattle.soqe_lex.specs.Lexical.{is_ordinary, is_word}
-use Rattle.soqe_term.specs.declared.signature.Kind.{Kind}
-use Rattle.soqe_term.specs.declared.signature.Kind.TheVariants as kind
-use Rattle.soqe_term.specs.declared.signature.NameKind.TheVariants as numbering
-use Rattle.soqe_term.specs.declared.signature.DeclareFault.{DeclareFault}
-use Rattle.soqe_term.specs.declared.signature.DeclareFault.TheVariants as fault
+use Rattle.soqe_term.specs.declared.kinds.Kind.{Kind}
+use Rattle.soqe_term.specs.declared.kinds.NameKind.TheVariants as numbering
+use Rattle.soqe_term.specs.declared.kinds.DeclareFault.{DeclareFault}
+use Rattle.soqe_term.specs.declared.kinds.DeclareFault.TheVariants as fault
 use Rattle.soqe_term.specs.Declarations.{Declaration, Found, numbering_of, of_numbering, count_of, lookup, lookup_behind, place_of, name_from}
 use Rattle.soqe_term.specs.Declares.{first_unknown, sorts_named, unknown_fault, fault_at, fault_of, Declares}
 use Rattle.soqe_term.proofs.Declared.{count_of-le, name_of-lookup}
-use Rattle.soqe_text.specs.Small.{is_new, entered, variable_of, pred_of}
-use Rattle.soqe_text.specs.Meanings.{meaning_of, variable_meant, pred_meant, entered_meant, IsDeclared}
-use Rattle.soqe_text.specs.declared.meaning.Meaning.TheVariants as meaning
+use Rattle.soqe_text.specs.NewNames.{is_new, OnRefusedName, name_fault_of}
 
 and-left : (a b : Bool) → (a && b) ≡ true → a ≡ true
 and-left true b h = refl
@@ -89,11 +85,11 @@ is_new_fault ds name k r known h =
     by (Some f) (Some p) o same h = ap (λ r. not (is_some r)) h
 
 -- a name that is refused is not new
-pub refused_declare : (ds new : List Declaration) (name : List ℕ) (k : Kind) (e : DeclareFault) (r : Refusal) → r ≡ refusal_for e
-    → Declares is_ordinary ds new name k (Err e) → first_unknown (count_of numbering.Sort ds) (sorts_named k) ≡ None → OnRefused {T = ℕ} (Err r) (is_new ds name ≡ false)
-refused_declare ds new name k e r is d known = subst (λ r. OnRefused {T = ℕ} (Err r) (is_new ds name ≡ false)) (sym is) (by e d)
+pub refused_declare : (ds new : List Declaration) (name : List ℕ) (k : Kind) (e : DeclareFault) (r : NameFault) → r ≡ name_fault_of e
+    → Declares is_ordinary ds new name k (Err e) → first_unknown (count_of numbering.Sort ds) (sorts_named k) ≡ None → OnRefusedName {T = ℕ} (Err r) (is_new ds name ≡ false)
+refused_declare ds new name k e r is d known = subst (λ r. OnRefusedName {T = ℕ} (Err r) (is_new ds name ≡ false)) (sym is) (by e d)
   where
-    by : (e : DeclareFault) → Declares is_ordinary ds new name k (Err e) → OnRefused {T = ℕ} (Err (refusal_for e)) (is_new ds name ≡ false)
+    by : (e : DeclareFault) → Declares is_ordinary ds new name k (Err e) → OnRefusedName {T = ℕ} (Err (name_fault_of e)) (is_new ds name ≡ false)
     by fault.Memory d = tt
     by (fault.Duplicate place) d = is_new_fault ds name k (Some (fault.Duplicate place)) known d.0
     by fault.Reserved d = is_new_fault ds name k (Some fault.Reserved) known d.0
@@ -125,75 +121,3 @@ ordinary-utf8 (b ∷ bs) h =
 
 pub odd_bytes : (ds : List Declaration) (name : List ℕ) → (IsUtf8 name → ⊥) → is_new ds name ≡ false
 odd_bytes ds name h = is_new-odd ds name (false_from_ne_true _ (λ o. h (ordinary-utf8 name o)))
-
--- each use of a name, by its meaning
-pub variable_meant_is : (scope : List ℕ) (found : Option Found) → variable_of scope found ≡ variable_meant scope (meaning_of found)
-variable_meant_is scope None = refl
-variable_meant_is scope (Some f) = by f.kind
-  where
-    by : (k : Kind) → variable_of scope (Some (record { kind = k; num = f.num })) ≡ variable_meant scope (meaning_of (Some (record { kind = k; num = f.num })))
-    by kind.Sort = refl
-    by (kind.Fun args result) = refl
-    by (kind.Pred args) = refl
-    by (kind.Free sort) = refl
-    by kind.Rel = refl
-    by kind.Prop = refl
-    by kind.VarName = refl
-    by kind.PredName = refl
-
-pub pred_meant_is : (arity count : ℕ) (found : Option Found) → pred_of arity count found ≡ pred_meant arity count (meaning_of found)
-pred_meant_is arity count None = refl
-pred_meant_is arity count (Some f) = by f.kind
-  where
-    by : (k : Kind) → pred_of arity count (Some (record { kind = k; num = f.num })) ≡ pred_meant arity count (meaning_of (Some (record { kind = k; num = f.num })))
-    by kind.Sort = refl
-    by (kind.Fun args result) = refl
-    by (kind.Pred args) = refl
-    by (kind.Free sort) = refl
-    by kind.Rel = refl
-    by kind.Prop = refl
-    by kind.VarName = refl
-    by kind.PredName = refl
-
-pub entered_meant_is : (ds : List Declaration) (name : List ℕ) (found : Option Found) → entered ds name found ≡ entered_meant ds name (meaning_of found)
-entered_meant_is ds name None = refl
-entered_meant_is ds name (Some f) = by f.kind
-  where
-    by : (k : Kind) → entered ds name (Some (record { kind = k; num = f.num })) ≡ entered_meant ds name (meaning_of (Some (record { kind = k; num = f.num })))
-    by kind.Sort = refl
-    by (kind.Fun args result) = refl
-    by (kind.Pred args) = refl
-    by (kind.Free sort) = refl
-    by kind.Rel = refl
-    by kind.Prop = refl
-    by kind.VarName = refl
-    by kind.PredName = refl
-
--- a name without meaning that is new and ordinary
-pub entered_new : (ds new : List Declaration) (name : List ℕ) (num : ℕ) → IsDeclared ds name kind.VarName num new
-    → entered ds name (lookup ds name) ≡ Some (record { num = num; declared = new })
-entered_new ds new name num h = by (lookup ds name) h.is_new
-  where
-    by : (found : Option Found) → elim found [ Some f ↦ false | None ↦ is_ordinary name ] ≡ true → entered ds name found ≡ Some (record { num = num; declared = new })
-    by None ordinary = cond-true _ _ _ ordinary ∙ (λ i. Some (record { num = sym h.num_is i; declared = sym h.new_is i }))
-    by (Some f) old = absurd (true≢false (sym old))
-
-some_meaning : (f : Found) → meaning_of (Some f) ≡ meaning.Nothing → ⊥
-some_meaning f m = by f.kind m
-  where
-    by : (k : Kind) → meaning_of (Some (record { kind = k; num = f.num })) ≡ meaning.Nothing → ⊥
-    by kind.Sort m = grind (arith, m)
-    by (kind.Fun args result) m = grind (arith, m)
-    by (kind.Pred args) m = grind (arith, m)
-    by (kind.Free sort) m = grind (arith, m)
-    by kind.Rel m = grind (arith, m)
-    by kind.Prop m = grind (arith, m)
-    by kind.VarName m = grind (arith, m)
-    by kind.PredName m = grind (arith, m)
-
-pub entered_odd : (ds : List Declaration) (name : List ℕ) → meaning_of (lookup ds name) ≡ meaning.Nothing → is_new ds name ≡ false → entered ds name (lookup ds name) ≡ None
-entered_odd ds name m h = entered_meant_is ds name (lookup ds name) ∙ ap (entered_meant ds name) m ∙ cond-false _ _ _ (by (lookup ds name) m h)
-  where
-    by : (found : Option Found) → meaning_of found ≡ meaning.Nothing → elim found [ Some f ↦ false | None ↦ is_ordinary name ] ≡ false → is_ordinary name ≡ false
-    by None m h = h
-    by (Some f) m h = absurd (some_meaning f m)

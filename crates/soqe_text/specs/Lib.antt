@@ -1,8 +1,10 @@
-pub mod Laws
 pub mod Lexing
-pub mod Meanings
-pub mod Numbered
-pub mod Refusals
+pub mod Naming
+pub mod NewNames
+pub mod Numbering
+pub mod Refused
 pub mod Scope
 pub mod Sorted
-pub mod Small
+pub mod Spelled
+pub mod Spellings
+pub mod Uses

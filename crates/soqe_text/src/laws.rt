@@ -1,15 +1,16 @@
-//! Laws of the small problems that texts spell.
-ghost use Rattle.soqe_text.specs.Laws.{SmallIsSorted, OneSmall, SmallOrNone, SmallOrFault, NoneOrFault};
+//! Laws of texts and the problems that they spell.
+ghost use Rattle.soqe_text.specs.Spellings.{SpelledIsSorted, OneSpelled, SpelledAlone, OneReason, ShapeReads};
 
-/// A small problem is well sorted.
-pub fn small_sorted()
-    ensures { SmallIsSorted }
+/// A problem that a text spells is well sorted.
+pub fn spelled_sorted()
+    ensures { SpelledIsSorted }
 {}
 
-/// A text spells one small problem, or it has a shape and spells none, or it has a syntax fault: never two of them.
-pub fn one_small()
-    ensures one { OneSmall }
-    ensures some { SmallOrNone }
-    ensures spelled { SmallOrFault }
-    ensures shaped { NoneOrFault }
+/// A text spells one problem, or a name of it is refused, or one is used wrongly, or it has a syntax fault: one of these
+/// where it has a shape, and never two.
+pub fn one_spelled()
+    ensures one { OneSpelled }
+    ensures alone { SpelledAlone }
+    ensures reason { OneReason }
+    ensures some { ShapeReads }
 {}

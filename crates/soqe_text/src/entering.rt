@@ -1,0 +1,92 @@
+//! Names at their binders.
+ghost use Rattle.std.specs.Prelude.{◌≡◌, None, Some, IfOk};
+ghost use Rattle.soqe_term.specs.Declarations.{lookup};
+ghost use Rattle.soqe_text.specs.Naming.{variable_place, predicate_place, variable_entered, predicate_entered, entered_at};
+ghost use Rattle.soqe_text.specs.NewNames.{OnRefusedName};
+ghost use Rattle.soqe_term.specs.Declares.{first_unknown, sorts_named};
+ghost use Rattle.soqe_term.specs.Declarations.{count_of};
+ghost use Rattle.soqe_term.specs.declared.kinds.NameKind.TheVariants as numbering;
+
+use crate::new_names::{NameFault, declare};
+use soqe_term::{Kind, Signature};
+
+/// What a name is where a binder has it.
+#[derive(Clone, Copy, Debug, PartialEq, Eq)]
+pub(crate) enum Place {
+    /// It is not there yet.
+    New,
+    /// It keeps its number.
+    Old(u64),
+    /// It stands for something else.
+    Taken,
+}
+
+/// What a name is at a binder of a variable.
+fn variable_place(sig: &Signature, name: &[u8]) -> Place
+    ensures { result ≡ variable_place (lookup sig.now name.now) }
+{
+    match sig.lookup_bytes(name) {
+        None => Place::New,
+        Some((kind, num)) => match kind {
+            Kind::VarName | Kind::Free { .. } => Place::Old(num),
+            Kind::Sort
+            | Kind::Fun { .. }
+            | Kind::Pred { .. }
+            | Kind::Rel
+            | Kind::Prop
+            | Kind::PredName => { Place::Taken }
+        },
+    }
+}
+
+/// What a name is at a binder of a predicate.
+fn predicate_place(sig: &Signature, name: &[u8]) -> Place
+    ensures { result ≡ predicate_place (lookup sig.now name.now) }
+{
+    match sig.lookup_bytes(name) {
+        None => Place::New,
+        Some((kind, num)) => match kind {
+            Kind::PredName => Place::Old(num),
+            Kind::Sort
+            | Kind::Fun { .. }
+            | Kind::Pred { .. }
+            | Kind::Free { .. }
+            | Kind::Rel
+            | Kind::Prop
+            | Kind::VarName => { Place::Taken }
+        },
+    }
+}
+
+/// The number of a name at its binder; a new name is declared.
+fn entered_at(sig: &mut Signature, name: &[u8], kind: Kind, place: Place) -> Result<u64, NameFault>
+    requires { first_unknown (count_of numbering.Sort sig.old) (sorts_named kind) ≡ None }
+    ensures ok { IfOk result (λ num. entered_at sig.old name.now kind place ≡ Some (record { num = num; declared = sig.new })) }
+    ensures refused { OnRefusedName result (entered_at sig.old name.now kind place ≡ None) }
+{
+    match place {
+        Place::New => declare(sig, name, kind),
+        Place::Old(num) => Ok(num),
+        Place::Taken => Err(NameFault::Refused),
+    }
+}
+
+/// The number of a variable at its binder; a new name is declared. It is refused where the name stands for something
+/// else, or is new and no ordinary name.
+pub(crate) fn enter_variable(sig: &mut Signature, name: &[u8]) -> Result<u64, NameFault>
+    ensures ok { IfOk result (λ num. variable_entered sig.old name.now ≡ Some (record { num = num; declared = sig.new })) }
+    ensures refused { OnRefusedName result (variable_entered sig.old name.now ≡ None) }
+{
+    let place = variable_place(sig, name);
+    entered_at(sig, name, Kind::VarName, place)
+}
+
+/// The number of a predicate at its binder; a new name is declared. It is refused where the name stands for something
+/// else, or is new and no ordinary name.
+pub(crate) fn enter_predicate(sig: &mut Signature, name: &[u8]) -> Result<u64, NameFault>
+    ensures ok { IfOk result (λ num. predicate_entered sig.old name.now ≡ Some (record { num = num; declared = sig.new })) }
+    ensures refused { OnRefusedName result (predicate_entered sig.old name.now ≡ None) }
+{
+    let place = predicate_place(sig, name);
+    entered_at(sig, name, Kind::PredName, place)
+}

@@ -1,0 +1,249 @@
+//! The names of a text: the first one that is refused, or else all declarations and names, in the order of the text.
+ghost use Rattle.std.specs.Prelude.{◌≡◌, ◌∷◌, None, Some, Ok, Err, IfOk, OnOk};
+ghost use Rattle.std.specs.Option.{option_or};
+ghost use Rattle.soqe_syntax.specs.Shapes.{view, term_view, terms_view};
+ghost use Rattle.soqe_term.specs.Declarations.{lookup};
+ghost use Rattle.soqe_text.specs.Naming.{is_usable, is_unknown, unknown_name, unknown_of, unknown_in, unknown_in_all, unknown_sort, variable_bound, predicate_bound, named};
+ghost use Rattle.soqe_text.specs.Refused.{OnRefusedAt};
+
+use crate::entering::{enter_predicate, enter_variable};
+use crate::new_names::NameFault;
+use crate::refused::Refused;
+use crate::scope::Scope;
+use crate::spans::text;
+use soqe_syntax::{Expr, Exprs, Shape, Span, Spans};
+use soqe_term::{Kind, Signature};
+
+/// Whether a name may be used.
+fn is_usable(sig: &Signature, vars: &Scope, preds: &Scope, name: &[u8]) -> bool
+    ensures { result ≡ is_usable vars.now preds.now (lookup sig.now name.now) }
+{
+    match sig.lookup_bytes(name) {
+        None => false,
+        Some((kind, num)) => match kind {
+            Kind::VarName => vars.has(num),
+            Kind::PredName => preds.has(num),
+            Kind::Sort
+            | Kind::Fun { .. }
+            | Kind::Pred { .. }
+            | Kind::Free { .. }
+            | Kind::Rel
+            | Kind::Prop => true,
+        },
+    }
+}
+
+/// Whether a name that is used stands for nothing.
+fn is_unknown(bytes: &[u8], sig: &Signature, vars: &Scope, preds: &Scope, name: Span) -> bool
+    ensures { result ≡ is_unknown bytes.now sig.now vars.now preds.now name }
+{
+    !is_usable(sig, vars, preds, text(bytes, name))
+}
+
+/// A name, if it is unknown.
+pub(crate) fn unknown_name(
+    bytes: &[u8],
+    sig: &Signature,
+    vars: &Scope,
+    preds: &Scope,
+    name: Span,
+) -> Option<u64>
+    ensures { result ≡ unknown_name bytes.now sig.now vars.now preds.now name }
+{
+    if is_unknown(bytes, sig, vars, preds, name) {
+        Some(name.start)
+    } else {
+        None
+    }
+}
+
+/// The first unknown name.
+pub(crate) fn unknown_of(
+    bytes: &[u8],
+    sig: &Signature,
+    vars: &Scope,
+    preds: &Scope,
+    names: &Spans,
+) -> Option<u64>
+    ensures { result ≡ unknown_of bytes.now sig.now vars.now preds.now names.now }
+{
+    match names
+        .as_slice()
+        .iter()
+        .find(|name| is_unknown(bytes, sig, vars, preds, **name))
+    {
+        Some(name) => Some(name.start),
+        None => None,
+    }
+}
+
+/// The sort of a binder, if one is written that is unknown.
+fn unknown_sort(
+    bytes: &[u8],
+    sig: &Signature,
+    vars: &Scope,
+    preds: &Scope,
+    sort: Option<Span>,
+) -> Option<u64>
+    ensures { result ≡ unknown_sort bytes.now sig.now vars.now preds.now sort }
+{
+    match sort {
+        Some(name) => unknown_name(bytes, sig, vars, preds, name),
+        None => None,
+    }
+}
+
+/// The first unknown name of a term.
+#[cycle(unknown)]
+fn unknown_in(
+    bytes: &[u8],
+    sig: &Signature,
+    vars: &Scope,
+    preds: &Scope,
+    term: &Expr,
+) -> Option<u64>
+    ensures { result ≡ unknown_in bytes.now sig.now vars.now preds.now (term_view term.now) }
+{
+    match term {
+        Expr::Plain(name) => unknown_name(bytes, sig, vars, preds, *name),
+        Expr::Applied(name, terms) => match unknown_name(bytes, sig, vars, preds, *name) {
+            Some(at) => Some(at),
+            None => unknown_in_all(bytes, sig, vars, preds, terms),
+        },
+    }
+}
+
+/// The first unknown name of terms.
+#[cycle(unknown)]
+fn unknown_in_all(
+    bytes: &[u8],
+    sig: &Signature,
+    vars: &Scope,
+    preds: &Scope,
+    terms: &Exprs,
+) -> Option<u64>
+    ensures { result ≡ unknown_in_all bytes.now sig.now vars.now preds.now (terms_view terms.now) }
+{
+    match terms {
+        Exprs::One(term) => unknown_in(bytes, sig, vars, preds, term),
+        Exprs::More(terms, term) => match unknown_in_all(bytes, sig, vars, preds, terms) {
+            Some(at) => Some(at),
+            None => unknown_in(bytes, sig, vars, preds, term),
+        },
+    }
+}
+
+/// The first unknown name of two terms.
+fn unknown_in_two(
+    bytes: &[u8],
+    sig: &Signature,
+    vars: &Scope,
+    preds: &Scope,
+    left: &Expr,
+    right: &Expr,
+) -> Option<u64>
+    ensures { result ≡ option_or (unknown_in bytes.now sig.now vars.now preds.now (term_view left.now)) (unknown_in bytes.now sig.now vars.now preds.now (term_view right.now)) }
+{
+    match unknown_in(bytes, sig, vars, preds, left) {
+        Some(at) => Some(at),
+        None => unknown_in(bytes, sig, vars, preds, right),
+    }
+}
+
+/// That no name was refused.
+fn unless_refused(unknown: Option<u64>) -> Result<(), Refused>
+    ensures ok { OnOk result (unknown ≡ None) }
+    ensures refused { OnRefusedAt result (λ at. unknown ≡ Some at) }
+{
+    match unknown {
+        Some(at) => Err(Refused::At(at)),
+        None => Ok(()),
+    }
+}
+
+/// A binder of a variable: the variable's number.
+fn variable_bound(
+    bytes: &[u8],
+    sig: &mut Signature,
+    vars: &Scope,
+    preds: &Scope,
+    name: Span,
+    sort: Option<Span>,
+) -> Result<u64, Refused>
+    ensures ok { IfOk result (λ num. variable_bound bytes.now sig.old vars.now preds.now name sort ≡ Ok (record { num = num; declared = sig.new })) }
+    ensures refused { OnRefusedAt result (λ at. variable_bound bytes.now sig.old vars.now preds.now name sort ≡ Err at) }
+{
+    match enter_variable(sig, text(bytes, name)) {
+        Ok(num) => match unknown_sort(bytes, sig, vars, preds, sort) {
+            Some(at) => Err(Refused::At(at)),
+            None => Ok(num),
+        },
+        Err(NameFault::Refused) => Err(Refused::At(name.start)),
+        Err(NameFault::Memory) => Err(Refused::Memory),
+    }
+}
+
+/// A binder of a predicate: the predicate's number.
+fn predicate_bound(
+    bytes: &[u8],
+    sig: &mut Signature,
+    vars: &Scope,
+    preds: &Scope,
+    name: Span,
+    sorts: &Spans,
+) -> Result<u64, Refused>
+    ensures ok { IfOk result (λ num. predicate_bound bytes.now sig.old vars.now preds.now name sorts.now ≡ Ok (record { num = num; declared = sig.new })) }
+    ensures refused { OnRefusedAt result (λ at. predicate_bound bytes.now sig.old vars.now preds.now name sorts.now ≡ Err at) }
+{
+    match enter_predicate(sig, text(bytes, name)) {
+        Ok(num) => match unknown_of(bytes, sig, vars, preds, sorts) {
+            Some(at) => Err(Refused::At(at)),
+            None => Ok(num),
+        },
+        Err(NameFault::Refused) => Err(Refused::At(name.start)),
+        Err(NameFault::Memory) => Err(Refused::Memory),
+    }
+}
+
+/// The names of a formula: those that its binders bring join the signature. The error is the first refused name, after
+/// which nothing is known of signature and scopes.
+pub(crate) fn named(
+    bytes: &[u8],
+    sig: &mut Signature,
+    vars: &mut Scope,
+    preds: &mut Scope,
+    shape: &Shape,
+) -> Result<(), Refused>
+    ensures ok { OnOk result (named bytes.now sig.old vars.old preds.old (view shape.now) ≡ Ok sig.new) }
+    ensures vars { OnOk result (vars.new ≡ vars.old) }
+    ensures preds { OnOk result (preds.new ≡ preds.old) }
+    ensures refused { OnRefusedAt result (λ at. named bytes.now sig.old vars.old preds.old (view shape.now) ≡ Err at) }
+{
+    match shape {
+        Shape::Constant(_) => Ok(()),
+        Shape::Atom(term) => unless_refused(unknown_in(bytes, sig, vars, preds, term)),
+        Shape::Equation(_, _, left, right) => {
+            unless_refused(unknown_in_two(bytes, sig, vars, preds, left, right))
+        }
+        Shape::Not(body) => named(bytes, sig, vars, preds, body),
+        Shape::Bind(_, name, sort, body) => {
+            let num = variable_bound(bytes, sig, vars, preds, *name, *sort)?;
+            vars.enter(num)?;
+            named(bytes, sig, vars, preds, body)?;
+            vars.leave();
+            Ok(())
+        }
+        Shape::Bind2(_, name, sorts, body) => {
+            let num = predicate_bound(bytes, sig, vars, preds, *name, sorts)?;
+            preds.enter(num)?;
+            named(bytes, sig, vars, preds, body)?;
+            preds.leave();
+            Ok(())
+        }
+        Shape::Binary(_, left, right) => {
+            named(bytes, sig, vars, preds, left)?;
+            named(bytes, sig, vars, preds, right)
+        }
+        Shape::Paren(body) => named(bytes, sig, vars, preds, body),
+    }
+}

@@ -1,0 +1,170 @@
+//! All problems: from the bytes of a text to a problem with numbers, or to the place where the text is refused.
+ghost use Rattle.std.specs.Prelude.{◌≡◌, ◌<◌, ◌^◌, length, Ok, Err, None, Some, IfOk, OnOk};
+ghost use Rattle.soqe_parse.specs.Faults.{IsFaultAt};
+ghost use Rattle.soqe_parse.specs.ProblemShapes.{problem_view};
+ghost use Rattle.soqe_syntax.specs.Shapes.{declared_view};
+ghost use Rattle.soqe_syntax.specs.Pieces.{HasProblem};
+ghost use Rattle.soqe_term.specs.declared.kinds.NameKind.TheVariants as numbering;
+ghost use Rattle.soqe_term.specs.Declarations.{count_of, free_sort_of};
+ghost use Rattle.soqe_text.specs.Lexing.{OnTextSyntax};
+ghost use Rattle.soqe_text.specs.Naming.{named_problem};
+ghost use Rattle.soqe_text.specs.Uses.{no_sort, no_sort_in, wrong_in_one, wrong_in_declared, wrong_in_problem, free_sorts, no_sorts};
+ghost use Rattle.soqe_text.specs.Numbering.{numbered};
+ghost use Rattle.soqe_text.specs.Refused.{OnRefusedAt};
+ghost use Rattle.soqe_text.specs.Sorted.{IsSorted};
+ghost use Rattle.soqe_text.specs.Spelled.{Spells, HasNameFault, HasSortFault, OnNames, OnSorts};
+ghost use Rattle.std.specs.Prelude.{map};
+ghost use Rattle.std.specs.Option.{option_or};
+
+use crate::Problem;
+use crate::declaring::declare_all;
+use crate::lexing::TextFault;
+use crate::naming::named;
+use crate::numbering::numbered;
+use crate::refused::Refused;
+use crate::scope::Scope;
+use crate::uses::{no_sort, no_sort_in};
+use soqe_form::Form;
+use soqe_parse::{ProblemShape, ShapeError, read_problem_shape};
+use soqe_syntax::{Item, Span, Spans};
+use soqe_term::{Mem, NameKind, Signature, Sorts};
+use sqlite_items::Boxed;
+use std::alloc::Global;
+
+/// Which problems a text is read for.
+#[derive(Clone, Copy, Debug, PartialEq, Eq)]
+pub enum Command {
+    Elim,
+}
+
+/// The declarations and names of a problem. The error is its first refused name.
+fn named_problem(alloc: Global, bytes: &[u8], shape: &ProblemShape) -> Result<Signature, Refused>
+    ensures ok { IfOk result (λ sig. named_problem bytes.now (problem_view shape.now) ≡ Ok sig) }
+    ensures refused { OnRefusedAt result (λ at. named_problem bytes.now (problem_view shape.now) ≡ Err at) }
+{
+    let mut sig = Signature::new(alloc)?;
+    declare_all(alloc, bytes, &mut sig, shape.declared.as_slice())?;
+    let mut vars = Scope::new(alloc);
+    let mut preds = Scope::new(alloc);
+    named(bytes, &mut sig, &mut vars, &mut preds, &shape.goal)?;
+    Ok(sig)
+}
+
+/// The first name of a function's sorts that is no sort's.
+fn wrong_in_fun(bytes: &[u8], sig: &Signature, sorts: &Spans, value: Span) -> Option<u64>
+    ensures { result ≡ option_or (no_sort_in bytes.now sig.now sorts.now) (no_sort bytes.now sig.now value) }
+{
+    match no_sort_in(bytes, sig, sorts) {
+        Some(at) => Some(at),
+        None => no_sort(bytes, sig, value),
+    }
+}
+
+/// The first name in a declaration that is no sort's in the place of one.
+fn wrong_in_one(bytes: &[u8], sig: &Signature, item: &Item) -> Option<u64>
+    ensures { result ≡ wrong_in_one bytes.now sig.now (declared_view item.now) }
+{
+    match item {
+        Item::Sort(_) => None,
+        Item::Fun(_, sorts, value) => wrong_in_fun(bytes, sig, sorts, *value),
+        Item::Pred(_, sorts) => no_sort_in(bytes, sig, sorts),
+        Item::Var(_, sort) => no_sort(bytes, sig, *sort),
+    }
+}
+
+/// The declarations use names of sorts as such. The error is the first that does not.
+#[tactic(auto, using(crate::proofs::Spelling::right_step, crate::proofs::Spelling::wrong_there))]
+fn check_declared(bytes: &[u8], sig: &Signature, items: &[Item]) -> Result<(), Refused>
+    ensures ok { OnOk result (wrong_in_declared bytes.now sig.now (map declared_view items.now) ≡ None) }
+    ensures refused { OnRefusedAt result (λ at. wrong_in_declared bytes.now sig.now (map declared_view items.now) ≡ Some at) }
+{
+    for item in items {
+        if let Some(at) = wrong_in_one(bytes, sig, item) {
+            return Err(Refused::At(at));
+        }
+    }
+    Ok(())
+}
+
+/// The sort of each variable outside all binders.
+#[tactic(auto, using(crate::proofs::Spelling::one_more_below))]
+fn free_sorts(alloc: Global, sig: &Signature) -> Mem<Vec<Option<u32>>>
+    ensures { IfOk result (λ sorts. sorts.items ≡ free_sorts sig.now) }
+{
+    let mut sorts = Vec::new(alloc);
+    for num in 0..sig.count(NameKind::Variable) as u64 {
+        sorts.push(sig.free_sort(num))?;
+    }
+    Ok(sorts)
+}
+
+/// No argument sorts for each bound predicate.
+#[tactic(auto, using(crate::proofs::Spelling::one_more_below))]
+fn no_sorts(alloc: Global, sig: &Signature) -> Mem<Vec<Option<Sorts>>>
+    ensures { IfOk result (λ sorts. sorts.items ≡ no_sorts sig.now) }
+{
+    let mut sorts = Vec::new(alloc);
+    for _num in 0..sig.count(NameKind::BoundPred) as u64 {
+        sorts.push(None)?;
+    }
+    Ok(sorts)
+}
+
+/// The goal of a problem whose names are known. The error is the first wrong use of a name.
+fn goal(
+    alloc: Global,
+    bytes: &[u8],
+    sig: &Signature,
+    shape: &ProblemShape,
+) -> Result<Boxed<Form>, Refused>
+    ensures right { OnOk result (wrong_in_problem bytes.now sig.now (problem_view shape.now) ≡ None) }
+    ensures form { IfOk result (λ f. f ≡ numbered bytes.now sig.now (free_sorts sig.now) (problem_view shape.now).goal) }
+    ensures refused { OnRefusedAt result (λ at. wrong_in_problem bytes.now sig.now (problem_view shape.now) ≡ Some at) }
+{
+    check_declared(bytes, sig, shape.declared.as_slice())?;
+    let mut vars = free_sorts(alloc, sig)?;
+    let mut preds = no_sorts(alloc, sig)?;
+    numbered(alloc, bytes, sig, &mut vars, &mut preds, &shape.goal)
+}
+
+/// The problem of a shape.
+fn problem_of(alloc: Global, bytes: &[u8], shape: &ProblemShape) -> Result<Problem, TextFault>
+    requires { HasProblem bytes.now (problem_view shape.now) }
+    ensures found { IfOk result (λ problem. Spells bytes.now problem) }
+    ensures syntax { OnTextSyntax result (λ at. IsFaultAt bytes.now at) }
+    ensures names { OnNames result (λ at. HasNameFault bytes.now at) }
+    ensures sorts { OnSorts result (λ at. HasSortFault bytes.now at) }
+{
+    match named_problem(alloc, bytes, shape) {
+        Ok(sig) => match goal(alloc, bytes, &sig, shape) {
+            Ok(goal) => Ok(Problem::Elim {
+                sig,
+                goal: Boxed::into_inner(goal),
+            }),
+            Err(Refused::At(at)) => Err(TextFault::Sorts(at)),
+            Err(Refused::Memory) => Err(TextFault::Memory),
+        },
+        Err(Refused::At(at)) => Err(TextFault::Names(at)),
+        Err(Refused::Memory) => Err(TextFault::Memory),
+    }
+}
+
+/// The problem that a text spells. `Syntax` comes where the text has no shape; `Names` where it has one and a name is
+/// refused, with the first such place; `Sorts` where no name is refused and one is used wrongly or an equation is between
+/// two sorts, with the first such place; `Memory` where memory runs out.
+pub fn read_problem(alloc: Global, command: Command, bytes: &[u8]) -> Result<Problem, TextFault>
+    requires { length bytes.now < 2 ^ 32 }
+    ensures found { IfOk result (λ problem. Spells bytes.now problem) }
+    ensures sorted { IfOk result (λ problem. IsSorted problem) }
+    ensures syntax { OnTextSyntax result (λ at. IsFaultAt bytes.now at) }
+    ensures names { OnNames result (λ at. HasNameFault bytes.now at) }
+    ensures sorts { OnSorts result (λ at. HasSortFault bytes.now at) }
+{
+    match command {
+        Command::Elim => match read_problem_shape(alloc, bytes) {
+            Ok(shape) => problem_of(alloc, bytes, &shape),
+            Err(ShapeError::Syntax(at)) => Err(TextFault::Syntax(at)),
+            Err(ShapeError::Memory) => Err(TextFault::Memory),
+        },
+    }
+}
