@@ -2,3 +2,17 @@ pub mod Written
 pub mod Arguments
 pub mod Negations
 pub mod Declared
+pub mod BackNames
+pub mod BackUses
+pub mod BackNumbers
+pub mod BackNormal
+pub mod BackLookups
+pub mod BackDressed
+pub mod PlacedLexing
+pub mod PlacedSigns
+pub mod PlacedShapes
+pub mod PlacedTexts
+pub mod BackLevels
+pub mod BackDeclared
+pub mod BackWords
+pub mod Back

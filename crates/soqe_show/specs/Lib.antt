@@ -1,3 +1,5 @@
 pub mod Dress
 pub mod Printed
 pub mod Lines
+pub mod Placed
+pub mod Back

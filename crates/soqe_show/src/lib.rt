@@ -2,10 +2,13 @@
 //!
 //! `specs/Dress.antt` makes the tree that is printed: names for numbers, and parentheses exactly where an operand is
 //! looser than its place. `specs/Printed.antt` writes a tree. `specs/Lines.antt` has the same texts in the order in
-//! which the code writes them.
+//! which the code writes them. `specs/Placed.antt` says where the names of a printed tree stand; by the laws the printed
+//! text falls into tokens that have the shape of the tree, each name at its place. By the law of `specs/Back.antt` it is
+//! read back as the problem that was printed.
 #![tactic(auto)]
 
 mod formulas;
+mod laws;
 mod names;
 mod problems;
 mod show;
@@ -14,6 +17,7 @@ mod terms;
 mod tests;
 
 pub use formulas::write_form;
+pub use laws::{printed_formula, printed_problem, read_back};
 pub use names::{write_number, write_pred};
 pub use problems::write_problem;
 pub use show::{show_form, show_problem, show_term};

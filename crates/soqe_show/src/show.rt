@@ -1,5 +1,6 @@
 //! Printed texts as values. Each function fails where memory runs out.
 ghost use Rattle.std.specs.Prelude.{◌≡◌, string_bytes, IfOk};
+ghost use Rattle.soqe_show.specs.Back.{SpellsWhereSome};
 ghost use Rattle.soqe_show.specs.Dress.{dress_term, form_text, problem_text};
 ghost use Rattle.soqe_show.specs.Printed.{term_text};
 
@@ -29,9 +30,11 @@ pub fn show_form(alloc: Global, sig: &Signature, form: &Form) -> Mem<String>
     Ok(text)
 }
 
-/// The printed text of a problem, each declaration and the goal on a line.
+/// The printed text of a problem, each declaration and the goal on a line. It spells the problem, if some text does.
+#[tactic(auto, using(crate::proofs::Back::printed_spells))]
 pub fn show_problem(alloc: Global, problem: &Problem) -> Mem<String>
-    ensures { IfOk result (λ text. string_bytes text ≡ problem_text problem.now) }
+    ensures text { IfOk result (λ text. string_bytes text ≡ problem_text problem.now) }
+    ensures spelled { IfOk result (λ text. SpellsWhereSome (string_bytes text) problem.now) }
 {
     let mut text = String::new(alloc);
     write_problem(&mut text, problem)?;
