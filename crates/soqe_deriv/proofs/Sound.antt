@@ -4,7 +4,8 @@
 -- that fits the declarations. And where a block is open, it is the first one of the formula that stands, and what its lines
 -- have come to has the truth of the quantified formula in every world that fits the names in scope at its place. The row
 -- `replace` gives the second fact, by the law of signs; the row `close` takes it back to the first, since a part replaced by
--- one of equal truth in its scope keeps the truth of the whole. At a result no quantified predicate is left, and a
+-- one of equal truth in its scope keeps the truth of the whole. Both facts are kept where a formula is simplified, and where
+-- a line shows one with other numbers for what is bound in it. At a result no quantified predicate is left, and a
 -- well-sorted formula uses known names alone, so it is pure. A structure that fits gives a world that fits.
 use Rattle.std.proofs.Common.{◌≡◌, Bool, true, false, List, [], ◌∷◌, ◌++◌, Option, Some, None, refl, sym, ◌∙◌, ap, subst}
 use Rattle.std.specs.Option.{is_some}
@@ -15,7 +16,6 @@ use Rattle.soqe_term.proofs.Structures.{fits-world}
 use Rattle.soqe_form.specs.declared.form.Form.{Form}
 use Rattle.soqe_form.specs.declared.form.Block.{Block}
 use Rattle.soqe_form.specs.Sorted.{sorted}
-use Rattle.soqe_form.specs.Alike.{AlikeIn}
 use Rattle.soqe_form.specs.Places.{first_block, part_at, put_at, scope_at, quantified, has_blocks}
 use Rattle.soqe_form.proofs.Places.{truth-put_at, sorted-part, sorted-put_at}
 use Rattle.soqe_form.proofs.FirstBlocks.{block-stands, some-first_block}
@@ -29,9 +29,11 @@ use Rattle.soqe_deriv.specs.declared.document.Line.{Line}
 use Rattle.soqe_deriv.specs.declared.document.Document.{Document}
 use Rattle.soqe_deriv.specs.Text.{declared_of}
 use Rattle.soqe_text.specs.Sorted.{IsSorted}
-use Rattle.soqe_deriv.specs.Valid.{Row, First, Posed, Further, Phase, Fresh, Running, Answered, Halted, Accepted, Ended, Opened, State, start_state, goal_of, opened, outcome, Step, first, posed, start, block, replace, close, result, mixed, end_answered, end_halted, Reach, none, more, further}
+use Rattle.soqe_deriv.specs.Valid.{Row, First, Posed, Further, Phase, Fresh, Running, Answered, Halted, Accepted, Ended, Opened, State, start_state, goal_of, kept, simplified, opened, outcome, Step, first, posed, start, block, replace, close, result, mixed, end_answered, end_halted, Reach, none, more, further}
 use Rattle.soqe_deriv.specs.Sound.{IsSound}
+use Rattle.soqe_deriv.proofs.Meanings.{Means, means-same, means-simplified}
 use Rattle.soqe_form.proofs.Pures.{first-order, free-known}
+use Rattle.soqe_form.proofs.SamePures.{blocks-same}
 
 some-is : {A : Type 0} {a b : A} → Some a ≡ Some b → a ≡ b
 some-is e = cc
@@ -47,9 +49,8 @@ abbrev known : Problem → Sorting
 known p = sorting_of (declared_of p)
 
 -- the formula is well sorted, and has the truth of the problem's goal
-record Holds (p : Problem) (f : Form) : Type 0 where
-  well : sorted (known p) f ≡ true
-  alike : AlikeIn (known p) f (goal_of p)
+abbrev Holds : Problem → Form → Type 0
+Holds p f = Means (known p) f (goal_of p)
 
 -- there is a problem, and the formula has the truth of its goal
 record Answers (o : Option Problem) (f : Form) : Type 0 where
@@ -58,9 +59,8 @@ record Answers (o : Option Problem) (f : Form) : Type 0 where
   holds : Holds problem f
 
 -- what a block's lines have come to is well sorted in the scope of its place, and has the truth of the block there
-record Comes (e : Sorting) (b : Block) (r : Form) : Type 0 where
-  well : sorted e r ≡ true
-  alike : AlikeIn e r (quantified b)
+abbrev Comes : Sorting → Block → Form → Type 0
+Comes e b r = Means e r (quantified b)
 
 -- the open block is the first one of the formula that stands
 record IsOpen (q : Option Problem) (f : Option Form) (o : Opened) : Type 0 where
@@ -84,7 +84,7 @@ record Good (s : State) : Type 0 where
   posed_well : (p : Problem) → s.problem ≡ Some p → IsSorted p
   formula : (f : Form) → s.formula ≡ Some f → Answers s.problem f
   block : (o : Opened) → s.block ≡ Some o → IsOpen s.problem s.formula o
-  done : IsDone s.phase → (f : Form) → s.formula ≡ Some f → first_block f ≡ None
+  done : IsDone s.phase → (f : Form) → s.formula ≡ Some f → has_blocks f ≡ false
 
 goal-sorted : (p : Problem) → IsSorted p → sorted (known p) (goal_of p) ≡ true
 goal-sorted (problem.Elim ds goal) h = h
@@ -113,6 +113,9 @@ value-comes p f b v e h q =
     let in_scope : sorted (scope_at b.place f (known p)) (quantified b) ≡ true = sorted-part b.place f (quantified b) (stands f b e) (known p) h.well in
     record { well = stays-sorted (scope_at b.place f (known p)) b v in_scope; alike = replaces-block (scope_at b.place f (known p)) b v q in_scope }
 
+no-blocks : (f : Form) → first_block f ≡ None → has_blocks f ≡ false
+no-blocks f e = sym (some-first_block f) ∙ ap is_some e
+
 module _ (s : State) (good : Good s) where
   keeps : {r : Row} {t : State} → Step s r t → Good t
   keeps (first h) = record { posed_well = good.posed_well; formula = good.formula; block = good.block; done = λ d. absurd d }
@@ -127,7 +130,9 @@ module _ (s : State) (good : Good s) where
     formula = λ x e. record {
       problem = p;
       is = q;
-      holds = subst (Holds p) (sym k ∙ some-is e) (record { well = goal-sorted p (good.posed_well p q); alike = λ w k. refl });
+      holds = subst (Holds p) (some-is e)
+          (means-same (known p) f (simplified (kept p) (goal_of p)) (goal_of p) k
+          (means-simplified (known p) (kept p) (goal_of p) (goal_of p) (record { well = goal-sorted p (good.posed_well p q); alike = λ w k. refl })));
     };
     block = λ o e. none-some n (good.block o e).is;
     done = λ d. not-done s h d;
@@ -156,32 +161,42 @@ module _ (s : State) (good : Good s) where
           formula = a.formula;
           is = a.is;
           first = a.first;
-          work = λ r c. subst (Comes (scope_at b.place a.formula (known g.problem)) b) (sym e ∙ some-is c) (value-comes g.problem a.formula b v a.first g.holds k);
+          work = λ r c. let scope = scope_at b.place a.formula (known g.problem) in
+              subst (Comes scope b) (some-is c)
+              (means-same scope f (valued b.pred.num v b.body) (quantified b) e (value-comes g.problem a.formula b v a.first g.holds k));
         });
     done = λ d. not-done s h d;
   }
-  keeps (close {f = f} {g = g} {r = r} {o = o} h q k u e) =
+  keeps (close {f = f} {g = g} {r = r} {p = p} {o = o} h j q k u e) =
       let a = good.block o k in
       let c = good.formula a.formula a.is in
-      let same : a.formula ≡ g = one_of a.is q in
-      let one : a.problem ≡ c.problem = one_of a.posed_is c.is in
-      let comes : Comes (scope_at o.block.place a.formula (known c.problem)) o.block f =
-      subst (λ p. Comes (scope_at o.block.place a.formula (known p)) o.block f) one (subst (Comes (scope_at o.block.place a.formula (known a.problem)) o.block) (sym e) (a.work r u)) in
+      let stood : a.formula ≡ g = one_of a.is q in
+      let posed_is : a.problem ≡ p = one_of a.posed_is j in
+      let holds : Holds p a.formula = subst (λ p. Holds p a.formula) (one_of c.is j) c.holds in
+      let scope = scope_at o.block.place a.formula (known p) in
+      let came : Comes scope o.block r = subst (λ p. Comes (scope_at o.block.place a.formula (known p)) o.block r) posed_is (a.work r u) in
+      let comes : Comes scope o.block f =
+      means-same scope f (simplified (kept p) r) (quantified o.block) e (means-simplified scope (kept p) r (quantified o.block) came) in
+      let put : Holds p (put_at o.block.place f g) = subst (λ x. Holds p (put_at o.block.place f x)) stood (put-holds p a.formula o.block f a.first holds comes) in
       record {
         posed_well = good.posed_well;
         formula = λ x d. record {
-          problem = c.problem;
-          is = c.is;
-          holds = subst (Holds c.problem) (ap (put_at o.block.place f) same ∙ some-is d) (put-holds c.problem a.formula o.block f a.first c.holds comes);
+          problem = p;
+          is = j;
+          holds = subst (Holds p) (some-is d) (means-simplified (known p) (kept p) (put_at o.block.place f g) (goal_of p) put);
         };
         block = λ p d. none-some refl d;
         done = λ d. not-done s h d;
       }
   keeps (result {f = f} {g = g} h q n k e) = record {
     posed_well = good.posed_well;
-    formula = λ x d. subst (Answers s.problem) (sym e ∙ some-is d) (good.formula g q);
+    formula = λ x d. let a = good.formula g q in record {
+      problem = a.problem;
+      is = a.is;
+      holds = subst (Holds a.problem) (some-is d) (means-same (known a.problem) f g (goal_of a.problem) e a.holds);
+    };
     block = λ o d. none-some n d;
-    done = λ d x u. subst (λ y. first_block y ≡ None) (sym e ∙ some-is u) k;
+    done = λ d x u. subst (λ y. has_blocks y ≡ false) (some-is u) (blocks-same f g e ∙ no-blocks g k);
   }
   keeps (mixed h q i j) = record { posed_well = good.posed_well; formula = good.formula; block = good.block; done = λ d. absurd d }
   keeps (end_answered h) = record {
@@ -227,7 +242,7 @@ step-posed (posed h n k) = refl
 step-posed (start h q n k) = refl
 step-posed (block h q n k) = refl
 step-posed (replace h q k e) = refl
-step-posed (close h q k u e) = refl
+step-posed (close h j q k u e) = refl
 step-posed (result h q n k e) = refl
 step-posed (mixed h q i j) = refl
 step-posed (end_answered h) = refl
@@ -237,19 +252,16 @@ reach-posed : {rs : List Row} {t : State} → Reach start_state rs t → t.probl
 reach-posed none = refl
 reach-posed (more {rs = rs} {r = r} k h) = step-posed h ∙ ap (λ o. posed_after o (r ∷ [])) (reach-posed k) ∙ sym (posed_after-append None rs (r ∷ []))
 
-no-blocks : (f : Form) → first_block f ≡ None → has_blocks f ≡ false
-no-blocks f e = sym (some-first_block f) ∙ ap is_some e
-
 pub accepted_sound : (d : Document) → IsSound d
 accepted_sound d f a =
     let good = good-reached a.reach in
     let answers = good.formula f a.formula in
     let posed_is : a.last.problem ≡ Some d.problem = reach-posed a.reach ∙ posed_after-further (Some d.problem) d.lines in
     let holds : Holds d.problem f = subst (λ p. Holds p f) (one_of answers.is posed_is) answers.holds in
-    let bare : first_block f ≡ None = good.done (subst IsDone (sym a.accepted) tt) f a.formula in
+    let bare : has_blocks f ≡ false = good.done (subst IsDone (sym a.accepted) tt) f a.formula in
     record {
       pure = record {
-        first_order = first-order f (known d.problem) (record { skolem = λ n. refl; bound = λ n. refl }) holds.well (no-blocks f bare);
+        first_order = first-order f (known d.problem) (record { skolem = λ n. refl; bound = λ n. refl }) holds.well bare;
         closed = λ n o. free-known n f (known d.problem) holds.well o;
       };
       same = λ m s h k. holds.alike (world_of (declared_of d.problem) m s) (fits-world (declared_of d.problem) m s h k);

@@ -1,11 +1,13 @@
 -- When a line of a document is valid, and what stands then.
-use Rattle.std.specs.Prelude.{◌≡◌, ℕ, Bool, true, List, [], ◌∷◌, ◌++◌, Option, Some, None}
-use Rattle.soqe_term.specs.Declarations.{sorting_of}
+use Rattle.std.specs.Prelude.{◌≡◌, ℕ, Bool, true, List, [], ◌∷◌, ◌++◌, map, Option, Some, None}
+use Rattle.soqe_term.specs.Declarations.{free_vars_of}
 use Rattle.soqe_form.specs.declared.form.Form.{Form}
 use Rattle.soqe_form.specs.declared.form.Pred.TheVariants.{Bound}
 use Rattle.soqe_form.specs.declared.form.Block.{Block}
-use Rattle.soqe_form.specs.Sorted.{sorted}
 use Rattle.soqe_form.specs.Places.{first_block, put_at}
+use Rattle.soqe_form.specs.Same.{same}
+use Rattle.soqe_form.specs.Tidy.{tidy}
+use Rattle.soqe_simp.specs.Simplified.{simplify}
 use Rattle.soqe_norm.specs.Valued.{valued, value_for, first_pos, first_neg}
 use Rattle.soqe_text.specs.Sorted.{IsSorted}
 use Rattle.soqe_text.specs.declared.problem.Problem.{Problem}
@@ -65,25 +67,30 @@ opened method.Sign b = record { block = b; work = Sign None }
 abbrev pub outcome : Work → Option Form
 outcome (Sign f) = f
 
--- Simplified formulas. No row simplifies anything yet.
-abbrev pub simplified : Form → Form
-simplified f = f
+-- the numbers of a problem's declared variables: binders of a tidy formula have others
+abbrev pub kept : Problem → List ℕ
+kept (problem.Elim ds goal) = map (λ x. x.num) (free_vars_of ds)
+
+-- the formula made simple, then tidy
+abbrev pub simplified : List ℕ → Form → Form
+simplified keep f = tidy keep (simplify f)
 
 -- In the state s the row is valid, and the last state stands then: one case for each kind of row.
 pub data Step (s : State) : Row → State → Type 0 where
   first : s.phase ≡ Fresh → Step s First (record s { phase = Running })
   posed : {p : Problem} → s.phase ≡ Running → s.problem ≡ None → IsSorted p → Step s (Posed p) (record s { problem = Some p })
-  start : {f : Form} {p : Problem} → s.phase ≡ Running → s.problem ≡ Some p → s.formula ≡ None → f ≡ simplified (goal_of p)
+  start : {f : Form} {p : Problem} → s.phase ≡ Running → s.problem ≡ Some p → s.formula ≡ None
+      → same f (simplified (kept p) (goal_of p)) ≡ true
       → Step s (Further (line.Start f)) (record s { formula = Some f })
   block : {m : Method} {f : Form} {b : Block} → s.phase ≡ Running → s.formula ≡ Some f → s.block ≡ None → first_block f ≡ Some b
       → Step s (Further (line.Block m (Bound b.pred.num))) (record s { block = Some (opened m b) })
   replace : {v : Bool} {f : Form} {b : Block} → s.phase ≡ Running → s.block ≡ Some (opened method.Sign b)
-      → value_for b ≡ Some v → f ≡ valued b.pred.num v b.body
+      → value_for b ≡ Some v → same f (valued b.pred.num v b.body) ≡ true
       → Step s (Further (line.Replace v f)) (record s { block = Some (record { block = b; work = Sign (Some f) }) })
-  close : {f g r : Form} {o : Opened} → s.phase ≡ Running → s.formula ≡ Some g → s.block ≡ Some o → outcome o.work ≡ Some r
-      → f ≡ simplified r
-      → Step s (Further (line.Close f)) (record s { formula = Some (simplified (put_at o.block.place f g)); block = None })
-  result : {f g : Form} → s.phase ≡ Running → s.formula ≡ Some g → s.block ≡ None → first_block g ≡ None → f ≡ g
+  close : {f g r : Form} {p : Problem} {o : Opened} → s.phase ≡ Running → s.problem ≡ Some p → s.formula ≡ Some g → s.block ≡ Some o
+      → outcome o.work ≡ Some r → same f (simplified (kept p) r) ≡ true
+      → Step s (Further (line.Close f)) (record s { formula = Some (simplified (kept p) (put_at o.block.place f g)); block = None })
+  result : {f g : Form} → s.phase ≡ Running → s.formula ≡ Some g → s.block ≡ None → first_block g ≡ None → same f g ≡ true
       → Step s (Further (line.Result f)) (record s { phase = Answered; formula = Some f })
   mixed : {i j : ℕ} {b : Block} → s.phase ≡ Running → s.block ≡ Some (opened method.Sign b)
       → first_pos (Bound b.pred.num) b.body ≡ Some i → first_neg (Bound b.pred.num) b.body ≡ Some j

@@ -7,6 +7,8 @@
 
 mod document;
 pub mod laws;
+#[cfg(test)]
+mod tests;
 mod write;
 
 pub use document::{Document, Line, Lines, Method, Stop};

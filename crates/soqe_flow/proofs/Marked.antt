@@ -1,11 +1,9 @@
 -- A block without a value has a place for each sign.
-use Rattle.std.proofs.Common.{◌≡◌, ℕ, true, Option, Some, None, refl, sym, ◌∙◌, ap}
+use Rattle.std.proofs.Common.{◌≡◌, ℕ, true, Option, Some, None, refl, ◌∙◌, ap}
 use Rattle.std.specs.Prelude.{is_some}
 use Rattle.soqe_form.specs.declared.form.Form.{Form}
 use Rattle.soqe_form.specs.declared.form.Pred.TheVariants.{Bound}
 use Rattle.soqe_form.specs.declared.form.Block.{Block}
-use Rattle.soqe_form.specs.Places.{first_block, put_at, where_some, replaced}
-use Rattle.soqe_form.proofs.FirstBlocks.{block-stands}
 use Rattle.soqe_norm.specs.Valued.{value_for, first_pos, first_neg}
 use Rattle.soqe_norm.specs.Passes.{capped}
 use Rattle.soqe_norm.proofs.Blocks.{mixed-has-both}
@@ -19,7 +17,3 @@ some-pos b f o h k e = ap is_some (k ∙ ap (λ f. capped (first_pos (Bound b.pr
 
 pub some-neg : (b : Block) (f : Form) (o : Option ℕ) → value_for b ≡ None → o ≡ capped (first_neg (Bound b.pred.num) f) → f ≡ b.body → is_some o ≡ true
 some-neg b f o h k e = ap is_some (k ∙ ap (λ f. capped (first_neg (Bound b.pred.num) f)) e) ∙ still-some (first_neg (Bound b.pred.num) b.body) ∙ (mixed-has-both b h).1
-
--- the first block's place is in the formula
-pub has-place : (f : Form) (b : Block) (by : Form) → first_block f ≡ Some b → replaced b.place by f ≡ None → ⊥
-has-place f b by h n = let e : Some (put_at b.place by f) ≡ None = sym (ap (λ o. where_some o (put_at b.place by f)) (block-stands f b h)) ∙ n in cc

@@ -34,19 +34,19 @@ both-none b i j h k = both-is-mixed b
     (sym (some-any (λ s. s.neg) (signs_of (Bound b.pred.num) b.body)) ∙ sym (counted (position (λ s. s.neg) (signs_of (Bound b.pred.num) b.body))) ∙ ap is_some k)
 
 pub one-derivation : OneDerivation
-one-derivation w f _ _ _ _ (result h) (result k) = (refl, refl)
-one-derivation _ f _ _ _ _ (result h) (sign k q r) = none-some h k
-one-derivation _ f _ _ _ _ (result h) (mixed k i j) = none-some h k
-one-derivation _ f _ _ _ _ (sign h q r) (result k) = none-some k h
-one-derivation _ f _ _ e g (sign {b = b} {v = v} {ls = ls} h q r) (sign {b = c} {v = u} {ls = ns} k p s) =
+one-derivation keep w f _ _ _ _ (result h) (result k) = (refl, refl)
+one-derivation keep _ f _ _ _ _ (result h) (sign k q r) = none-some h k
+one-derivation keep _ f _ _ _ _ (result h) (mixed k i j) = none-some h k
+one-derivation keep _ f _ _ _ _ (sign h q r) (result k) = none-some k h
+one-derivation keep _ f _ _ e g (sign {b = b} {v = v} {ls = ls} h q r) (sign {b = c} {v = u} {ls = ns} k p s) =
     let same : b ≡ c = one_of h k in
     let equal : v ≡ u = one_of q (ap value_for same ∙ p) in
-    let rest = one-derivation _ (after_sign f b v) ls ns e g r (subst (λ x. Follows wanted.Sign x ns g) (sym (λ i. after_sign f (same i) (equal i))) s) in
-    (λ i. sign_lines (same i) (equal i) ++ rest.0 i, rest.1)
-one-derivation _ f _ _ _ _ (sign h q r) (mixed {b = c} {i = i} {j = j} k x y) = none-some (ap value_for (one_of h k) ∙ both-none c i j x y) q
-one-derivation _ f _ _ _ _ (mixed h i j) (result k) = none-some k h
-one-derivation _ f _ _ _ _ (mixed {b = b} {i = i} {j = j} h x y) (sign k q r) = none-some (ap value_for (one_of k h) ∙ both-none b i j x y) q
-one-derivation _ f _ _ _ _ (mixed {b = b} {i = i} {j = j} h x y) (mixed {b = c} {i = l} {j = m} k s t) =
+    let rest = one-derivation keep _ (after_sign keep f b v) ls ns e g r (subst (λ x. Follows keep wanted.Sign x ns g) (sym (λ i. after_sign keep f (same i) (equal i))) s) in
+    (λ i. sign_lines keep (same i) (equal i) ++ rest.0 i, rest.1)
+one-derivation keep _ f _ _ _ _ (sign h q r) (mixed {b = c} {i = i} {j = j} k x y) = none-some (ap value_for (one_of h k) ∙ both-none c i j x y) q
+one-derivation keep _ f _ _ _ _ (mixed h i j) (result k) = none-some k h
+one-derivation keep _ f _ _ _ _ (mixed {b = b} {i = i} {j = j} h x y) (sign k q r) = none-some (ap value_for (one_of k h) ∙ both-none b i j x y) q
+one-derivation keep _ f _ _ _ _ (mixed {b = b} {i = i} {j = j} h x y) (mixed {b = c} {i = l} {j = m} k s t) =
     let same : b ≡ c = one_of h k in
     let first : i ≡ l = one_of x (ap (λ b. first_pos (Bound b.pred.num) b.body) same ∙ s) in
     let second : j ≡ m = one_of y (ap (λ b. first_neg (Bound b.pred.num) b.body) same ∙ t) in

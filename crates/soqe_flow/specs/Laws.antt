@@ -8,7 +8,7 @@ use Rattle.soqe_deriv.specs.declared.document.Stop.{Stop}
 use Rattle.soqe_flow.specs.declared.derivation.Wanted.{Wanted}
 use Rattle.soqe_flow.specs.Ordered.{Ending, Result, Stops, Follows, IsOrdered}
 use Rattle.soqe_deriv.specs.declared.document.Line.{Line}
-use Rattle.std.specs.Prelude.{◌≡◌, List}
+use Rattle.std.specs.Prelude.{◌≡◌, ℕ, List}
 
 -- the document of a well-sorted problem that ends with a result is valid
 abbrev pub DoneIsValid : Type 0
@@ -24,4 +24,4 @@ DoneIsSound = (w : Wanted) (d : Document) (f : Form) → IsSorted d.problem → 
 
 -- a method has one derivation from a formula
 abbrev pub OneDerivation : Type 0
-OneDerivation = (w : Wanted) (f : Form) (ls ms : List Line) (e g : Ending) → Follows w f ls e → Follows w f ms g → (ls ≡ ms) × (e ≡ g)
+OneDerivation = (keep : List ℕ) (w : Wanted) (f : Form) (ls ms : List Line) (e g : Ending) → Follows keep w f ls e → Follows keep w f ms g → (ls ≡ ms) × (e ≡ g)

@@ -4,6 +4,7 @@ use Rattle.soqe_form.specs.declared.form.Form.{Form}
 use Rattle.soqe_form.specs.declared.form.Pred.TheVariants.{Bound}
 use Rattle.soqe_form.specs.declared.form.Block.{Block}
 use Rattle.soqe_form.specs.Places.{first_block, put_at}
+use Rattle.soqe_form.specs.Tidy.{tidy}
 use Rattle.soqe_norm.specs.Valued.{valued, value_for, first_pos, first_neg}
 use Rattle.soqe_text.specs.declared.problem.Problem.{Problem}
 use Rattle.soqe_deriv.specs.declared.document.Method.TheVariants as method
@@ -12,7 +13,7 @@ use Rattle.soqe_deriv.specs.declared.document.Stop.TheVariants as stop
 use Rattle.soqe_deriv.specs.declared.document.Line.{Line}
 use Rattle.soqe_deriv.specs.declared.document.Line.TheVariants as line
 use Rattle.soqe_deriv.specs.declared.document.Document.{Document}
-use Rattle.soqe_deriv.specs.Valid.{goal_of, simplified, IsAccepted, IsHalted}
+use Rattle.soqe_deriv.specs.Valid.{goal_of, kept, simplified, IsAccepted, IsHalted}
 use Rattle.soqe_deriv.specs.Sound.{IsAnswerTo}
 use Rattle.soqe_flow.specs.declared.derivation.Wanted.{Wanted}
 use Rattle.soqe_flow.specs.declared.derivation.Wanted.TheVariants as wanted
@@ -24,32 +25,41 @@ pub data Ending : Type 0 where
   Result : Form → Ending
   Stops : Stop → Ending
 
--- the formula that replaces a block
-abbrev pub replaced : Block → Bool → Form
-replaced b v = valued b.pred.num v b.body
+-- a block's body with a truth value for its predicate, tidy
+abbrev pub replaced : List ℕ → Block → Bool → Form
+replaced keep b v = tidy keep (valued b.pred.num v b.body)
+
+-- the formula that replaces the block
+abbrev pub closed : List ℕ → Block → Bool → Form
+closed keep b v = simplified keep (replaced keep b v)
 
 -- the lines of a block whose predicate is replaced by a truth value
-abbrev pub sign_lines : Block → Bool → List Line
-sign_lines b v = line.Block method.Sign (Bound b.pred.num) ∷ line.Replace v (replaced b v) ∷ line.Close (simplified (replaced b v)) ∷ []
+abbrev pub sign_lines : List ℕ → Block → Bool → List Line
+sign_lines keep b v = line.Block method.Sign (Bound b.pred.num) ∷ line.Replace v (replaced keep b v) ∷ line.Close (closed keep b v) ∷ []
 
 -- what stands after such a block
-abbrev pub after_sign : Form → Block → Bool → Form
-after_sign f b v = simplified (put_at b.place (simplified (replaced b v)) f)
+abbrev pub after_sign : List ℕ → Form → Block → Bool → Form
+after_sign keep f b v = simplified keep (put_at b.place (closed keep b v) f)
 
--- Where f stands, these lines follow with the method asked for, and this is their ending.
-pub data Follows : Wanted → Form → List Line → Ending → Type 0 where
-  result : {w : Wanted} {f : Form} → first_block f ≡ None → Follows w f (line.Result f ∷ line.End ∷ []) (Result f)
+-- Where f stands, these lines follow with the method asked for, and this is their ending. Formulas are tidy with the numbers
+-- to keep out.
+pub data Follows (keep : List ℕ) : Wanted → Form → List Line → Ending → Type 0 where
+  result : {w : Wanted} {f : Form} → first_block f ≡ None → Follows keep w f (line.Result f ∷ line.End ∷ []) (Result f)
   sign : {f : Form} {b : Block} {v : Bool} {ls : List Line} {e : Ending} → first_block f ≡ Some b → value_for b ≡ Some v
-      → Follows wanted.Sign (after_sign f b v) ls e → Follows wanted.Sign f (sign_lines b v ++ ls) e
+      → Follows keep wanted.Sign (after_sign keep f b v) ls e → Follows keep wanted.Sign f (sign_lines keep b v ++ ls) e
   mixed : {f : Form} {b : Block} {i j : ℕ} → first_block f ≡ Some b
       → first_pos (Bound b.pred.num) b.body ≡ Some i → first_neg (Bound b.pred.num) b.body ≡ Some j
-      → Follows wanted.Sign f (line.Block method.Sign (Bound b.pred.num) ∷ line.Stopped (stop.Mixed i j) ∷ line.End ∷ []) (Stops (stop.Mixed i j))
+      → Follows keep wanted.Sign f (line.Block method.Sign (Bound b.pred.num) ∷ line.Stopped (stop.Mixed i j) ∷ line.End ∷ []) (Stops (stop.Mixed i j))
+
+-- the formula that a problem's derivation starts with
+abbrev pub started : Problem → Form
+started p = simplified (kept p) (goal_of p)
 
 -- The lines of a document are those that are due for its problem, and this is their ending.
 pub record IsOrdered (w : Wanted) (d : Document) (e : Ending) : Type 0 where
   pub lines : List Line
-  pub are : d.lines ≡ line.Start (simplified (goal_of d.problem)) ∷ lines
-  pub follow : Follows w (simplified (goal_of d.problem)) lines e
+  pub are : d.lines ≡ line.Start (started d.problem) ∷ lines
+  pub follow : Follows (kept d.problem) w (started d.problem) lines e
 
 -- A derivation of the problem ends as its document does.
 abbrev pub EndsAsOrdered : Wanted → Problem → FlowEnd → Type 0

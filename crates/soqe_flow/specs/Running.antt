@@ -1,5 +1,5 @@
 -- The lines of a derivation while they are written.
-use Rattle.std.specs.Prelude.{◌≡◌, List, [], ◌∷◌, Option, Some, None}
+use Rattle.std.specs.Prelude.{◌≡◌, ℕ, List, [], ◌∷◌, Option, Some, None}
 use Rattle.soqe_form.specs.declared.form.Form.{Form}
 use Rattle.soqe_form.specs.declared.form.Pred.TheVariants.{Bound}
 use Rattle.soqe_form.specs.declared.form.Block.{Block}
@@ -12,16 +12,16 @@ use Rattle.soqe_deriv.specs.declared.document.Line.TheVariants as line
 use Rattle.soqe_flow.specs.declared.derivation.Wanted.TheVariants as wanted
 use Rattle.soqe_flow.specs.Ordered.{Ending, Result, Stops, Follows}
 
--- the lines behind those of a problem are those that are due for its goal, and this is their ending
-pub record Derives (g : Form) (all : List Line) (e : Ending) : Type 0 where
+-- the lines behind those of a problem are those that are due where the derivation starts with g, and this is their ending
+pub record Derives (keep : List ℕ) (g : Form) (all : List Line) (e : Ending) : Type 0 where
   pub lines : List Line
   pub are : all ≡ line.Start g ∷ lines
-  pub follow : Follows wanted.Sign g lines e
+  pub follow : Follows keep wanted.Sign g lines e
 
 -- the lines end with the stop, or with a result where there is none
-abbrev pub HasRun : Form → List Line → Option Stop → Type 0
-HasRun g ls None = (f : Form) × Derives g ls (Result f)
-HasRun g ls (Some s) = Derives g ls (Stops s)
+abbrev pub HasRun : List ℕ → Form → List Line → Option Stop → Type 0
+HasRun keep g ls None = (f : Form) × Derives keep g ls (Result f)
+HasRun keep g ls (Some s) = Derives keep g ls (Stops s)
 
 -- the stop has the places where the block's predicate first occurs with each sign
 abbrev pub IsMixed : Block → Stop → Type 0

@@ -1,6 +1,5 @@
 //! Elimination of the quantified predicates of a goal.
 ghost use Rattle.std.specs.Prelude.{◌≡◌, ◌∷◌, [], ◌++◌, ℕ, List, Option, Some, None, true, is_some, IfOk};
-ghost use Rattle.soqe_form.specs.Places.{first_block as first_block_of, put_at};
 ghost use Rattle.soqe_norm.specs.Valued.{value_for as value_of};
 ghost use Rattle.soqe_norm.specs.Passes.{capped};
 ghost use Rattle.soqe_deriv.specs.declared.document.Line.TheVariants.{Block as BlockLine, Start, Result, End};
@@ -8,15 +7,16 @@ ghost use Rattle.soqe_deriv.specs.declared.document.Method.TheVariants as method
 ghost use Rattle.soqe_form.specs.declared.form.Pred.TheVariants.{Bound};
 ghost use Rattle.soqe_flow.specs.declared.derivation.Wanted.TheVariants as wanted;
 ghost use Rattle.soqe_text.specs.Sorted.{IsSorted};
-ghost use Rattle.soqe_deriv.specs.Valid.{goal_of};
-ghost use Rattle.soqe_flow.specs.Ordered.{EndsAsOrdered, EndsAsSound, sign_lines, after_sign};
+ghost use Rattle.soqe_deriv.specs.Valid.{goal_of, kept as kept_of, simplified as simplified_of};
+ghost use Rattle.soqe_flow.specs.Ordered.{EndsAsOrdered, EndsAsSound, started, replaced as replaced_of, sign_lines, after_sign};
 ghost use Rattle.soqe_flow.specs.Running.{HasRun, IsMixed, mixed_lines};
 
+use crate::simplifying::{kept, simplified};
 use soqe_deriv::{Document, Line, Lines, Method, Stop};
-use soqe_form::{Block, Form, Pred, copy_boxed, first_block, replace_at};
+use soqe_form::{Block, Form, Pred, copy_boxed, first_block, put_in, tidy};
 use soqe_norm::signs::first_signs;
 use soqe_norm::valued::{value_for, valued};
-use soqe_term::Mem;
+use soqe_term::{Mem, Nums};
 use soqe_text::Problem;
 use sqlite_items::Boxed;
 use std::alloc::{AllocError, Global};
@@ -41,22 +41,40 @@ struct Run {
     stop: Option<Stop>,
 }
 
-/// The derivation of a problem: the first block of what stands is eliminated until there is none.
-pub fn elim(alloc: Global, problem: &Problem, wanted: Wanted) -> Mem<FlowEnd>
-    requires { IsSorted problem.now }
-    ensures ordered { IfOk result (λ end. EndsAsOrdered wanted problem.now end) }
+/// The derivation of a problem: the first block of what stands is eliminated until there is none. It moves the problem
+/// into the document, and fails where memory runs out, or where a stop's number does not fit in 64 bits.
+pub fn elim(alloc: Global, problem: Problem, wanted: Wanted) -> Mem<FlowEnd>
+    requires { IsSorted problem }
+    ensures ordered { IfOk result (λ end. EndsAsOrdered wanted problem end) }
     ensures sound { IfOk result (λ end. EndsAsSound wanted end) }
 {
-    let run = match wanted {
-        Wanted::Sign => run_signs(alloc, goal(problem))?,
-    };
-    let problem = problem.copy(alloc)?;
-    Ok(ended(problem, run))
+    match derive(alloc, &problem, wanted) {
+        Ok(run) => Ok(ended(problem, run)),
+        Err(AllocError) => Err(AllocError),
+    }
+}
+
+/// The lines of the derivation of a problem.
+fn derive(alloc: Global, problem: &Problem, wanted: Wanted) -> Mem<Run>
+    ensures { IfOk result (λ run. HasRun (kept_of problem.now) (started problem.now) run.lines run.stop) }
+{
+    let keep = kept(alloc, problem)?;
+    derive_keeping(alloc, problem, &keep, wanted)
+}
+
+/// The same with the numbers that no binder gets.
+fn derive_keeping(alloc: Global, problem: &Problem, keep: &Nums, wanted: Wanted) -> Mem<Run>
+    requires { keep.now ≡ kept_of problem.now }
+    ensures { IfOk result (λ run. HasRun (kept_of problem.now) (started problem.now) run.lines run.stop) }
+{
+    match wanted {
+        Wanted::Sign => run_signs(alloc, goal(problem), keep),
+    }
 }
 
 /// The document of the lines.
 fn ended(problem: Problem, run: Run) -> FlowEnd
-    requires { HasRun (goal_of problem) run.lines run.stop }
+    requires { HasRun (kept_of problem) (started problem) run.lines run.stop }
     ensures { EndsAsOrdered wanted.Sign problem result }
 {
     let stop = run.stop;
@@ -78,12 +96,12 @@ fn goal(problem: &Problem) -> &Form
     }
 }
 
-/// The lines of the derivation of a goal by signs.
-fn run_signs(alloc: Global, goal: &Form) -> Mem<Run>
-    ensures { IfOk result (λ run. HasRun goal.now run.lines run.stop) }
+/// The lines of the derivation of a goal by signs. No binder of its formulas gets a number of `keep`.
+fn run_signs(alloc: Global, goal: &Form, keep: &Nums) -> Mem<Run>
+    ensures { IfOk result (λ run. HasRun keep.now (simplified_of keep.now goal.now) run.lines run.stop) }
 {
     let mut lines = Lines::new(alloc);
-    let mut now = write_start(alloc, &mut lines, goal)?;
+    let mut now = write_start(alloc, &mut lines, goal, keep)?;
     'blocks: loop {
         match first_block(alloc, now.get())? {
             None => {
@@ -98,28 +116,21 @@ fn run_signs(alloc: Global, goal: &Form) -> Mem<Run>
                         stop: Some(stop),
                     });
                 }
-                Some(value) => now = write_sign(alloc, &mut lines, now.get(), &block, value)?,
+                Some(value) => now = write_sign(alloc, &mut lines, now, &block, value, keep)?,
             },
         }
     }
 }
 
-/// The line that starts with a goal, and the goal.
-fn write_start(alloc: Global, lines: &mut Lines, goal: &Form) -> Mem<Boxed<Form>>
-    ensures lines { IfOk result (λ f. lines.new ≡ lines.old ++ Start goal.now ∷ []) }
-    ensures stands { IfOk result (λ f. f ≡ goal.now) }
+/// The line that starts with a goal, simplified, and what stands then.
+fn write_start(alloc: Global, lines: &mut Lines, goal: &Form, keep: &Nums) -> Mem<Boxed<Form>>
+    ensures lines { IfOk result (λ f. lines.new ≡ lines.old ++ Start (simplified_of keep.now goal.now) ∷ []) }
+    ensures stands { IfOk result (λ f. f ≡ simplified_of keep.now goal.now) }
 {
-    let now = boxed_copy(alloc, goal)?;
+    let now = simplified(alloc, goal, keep)?;
     let line = copy_boxed(alloc, &now)?;
     lines.push(Line::Start(line))?;
     Ok(now)
-}
-
-fn boxed_copy(alloc: Global, form: &Form) -> Mem<Boxed<Form>>
-    ensures { IfOk result (λ f. f ≡ form.now) }
-{
-    let form = form.copy(alloc)?;
-    Boxed::new(alloc, form)
 }
 
 /// The last lines behind a formula without blocks.
@@ -135,21 +146,31 @@ fn write_result(lines: &mut Lines, form: Boxed<Form>) -> Mem<()>
 fn write_sign(
     alloc: Global,
     lines: &mut Lines,
-    form: &Form,
+    form: Boxed<Form>,
     block: &Block,
     value: bool,
+    keep: &Nums,
 ) -> Mem<Boxed<Form>>
-    requires { first_block_of form.now ≡ Some block.now }
-    ensures lines { IfOk result (λ f. lines.new ≡ lines.old ++ sign_lines block.now value) }
-    ensures stands { IfOk result (λ f. f ≡ after_sign form.now block.now value) }
+    ensures lines { IfOk result (λ f. lines.new ≡ lines.old ++ sign_lines keep.now block.now value) }
+    ensures stands { IfOk result (λ f. f ≡ after_sign keep.now form block.now value) }
 {
-    let due = valued(alloc, block.body.get(), block.pred.num, value)?;
-    let closed = copy_boxed(alloc, &due)?;
-    let next = replaced(alloc, form, block, closed.get())?;
+    let due = replaced(alloc, block, value, keep)?;
+    let closed = simplified(alloc, due.get(), keep)?;
+    let part = copy_boxed(alloc, &closed)?;
+    let next = put_in(alloc, form, block.place.as_slice(), part)?;
+    let next = simplified(alloc, next.get(), keep)?;
     lines.push(block_line(block))?;
     lines.push(Line::Replace { value, form: due })?;
     lines.push(Line::Close(closed))?;
     Ok(next)
+}
+
+/// A block's body with a truth value for its predicate, tidy.
+fn replaced(alloc: Global, block: &Block, value: bool, keep: &Nums) -> Mem<Boxed<Form>>
+    ensures { IfOk result (λ f. f ≡ replaced_of keep.now block.now value) }
+{
+    let form = valued(alloc, block.body.get(), block.pred.num, value)?;
+    tidy(alloc, form.get(), keep)
 }
 
 fn block_line(block: &Block) -> Line
@@ -158,17 +179,6 @@ fn block_line(block: &Block) -> Line
     Line::Block {
         method: Method::Sign,
         pred: Pred::Bound(block.pred.num),
-    }
-}
-
-/// The formula with another one in the place of its first block.
-fn replaced(alloc: Global, form: &Form, block: &Block, by: &Form) -> Mem<Boxed<Form>>
-    requires { first_block_of form.now ≡ Some block.now }
-    ensures { IfOk result (λ f. f ≡ put_at block.now.place by.now form.now) }
-{
-    match replace_at(alloc, form, &block.place, by)? {
-        Some(whole) => Ok(whole),
-        None => unreachable!(),
     }
 }
 

@@ -6,5 +6,8 @@
 
 mod derivation;
 pub mod laws;
+mod simplifying;
+#[cfg(test)]
+mod tests;
 
 pub use derivation::{FlowEnd, Wanted, elim};

@@ -1,0 +1,42 @@
+//! Simplified formulas, and the numbers that their binders keep free.
+ghost use Rattle.std.specs.Prelude.{◌≡◌, map, IfOk};
+ghost use Rattle.soqe_deriv.specs.Valid.{kept as kept_of, simplified as simplified_of};
+
+use soqe_form::{Form, tidy};
+use soqe_simp::simplify;
+use soqe_term::{Mem, Nums, Var};
+use soqe_text::Problem;
+use sqlite_items::Boxed;
+use std::alloc::Global;
+
+/// The numbers of a problem's declared variables.
+pub(crate) fn kept(alloc: Global, problem: &Problem) -> Mem<Nums>
+    ensures { IfOk result (λ keep. keep ≡ kept_of problem.now) }
+{
+    match problem {
+        Problem::Elim { sig, .. } => {
+            let vars = sig.free(alloc)?;
+            numbers(alloc, vars.as_slice())
+        }
+    }
+}
+
+/// The numbers of variables.
+#[tactic(auto, using(std::proofs::Common::append_assoc))]
+fn numbers(alloc: Global, vars: &[Var]) -> Mem<Nums>
+    ensures { IfOk result (λ nums. nums ≡ map (λ x. x.num) vars.now) }
+{
+    let mut nums = Nums::new(alloc);
+    for x in vars {
+        nums.push(x.num)?;
+    }
+    Ok(nums)
+}
+
+/// The formula made simple, then tidy.
+pub(crate) fn simplified(alloc: Global, form: &Form, keep: &Nums) -> Mem<Boxed<Form>>
+    ensures { IfOk result (λ r. r ≡ simplified_of keep.now form.now) }
+{
+    let simple = simplify(alloc, form)?;
+    tidy(alloc, simple.get(), keep)
+}
