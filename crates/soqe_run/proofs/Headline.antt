@@ -4,19 +4,20 @@ use Rattle.std.specs.Prelude.{Option, Some}
 use Rattle.std.specs.Io.KnownBytes.{Appends, Consumes, IsAtEnd}
 use Rattle.soqe_run.specs.Plan.{the_plan}
 use Rattle.soqe_run.specs.Answer.{Answer, usage, planned, Replies, too_long, by_sign}
-use Rattle.soqe_run.specs.Responds.{Responds, syntax_fault, not_built, done, mixed}
+use Rattle.soqe_run.specs.Responds.{Responds, syntax_fault, names_fault, sorts_fault, done, mixed}
 use Rattle.soqe_run.specs.Outcome.{IsDue, IsDelivered, IsReadForAnswer}
 use Rattle.soqe_run.specs.Headline.{IsSolved}
 use Rattle.soqe_run.specs.declared.plan.Plan.{Plan}
 use Rattle.soqe_run.specs.declared.status.Status.{Status}
-use Rattle.soqe_run.specs.declared.status.Status.TheVariants.{Done, Usage, Syntax, TooLong, Mixed, NotBuilt, ReadFault, WriteFault}
+use Rattle.soqe_run.specs.declared.status.Status.TheVariants.{Done, Usage, Syntax, Names, Sorts, TooLong, Mixed, ReadFault, WriteFault}
 
 -- what an engine answers with `Done` is a derivation with a result
 solved_response : (left_before left_after taken_before taken_after : Option (List ℕ)) (read text : List ℕ) (status : Status)
     → status ≡ Done → Consumes left_before left_after read → IsAtEnd left_after → Appends taken_before taken_after text
     → Responds read status text → IsSolved left_before left_after taken_before taken_after
 solved_response lb la tb ta read text status is told end wrote (syntax_fault at fault fixed) = let e : status ≡ Syntax = fixed.status_is in cc
-solved_response lb la tb ta read text status is told end wrote (not_built none fixed) = let e : status ≡ NotBuilt = fixed.status_is in cc
+solved_response lb la tb ta read text status is told end wrote (names_fault at fault fixed) = let e : status ≡ Names = fixed.status_is in cc
+solved_response lb la tb ta read text status is told end wrote (sorts_fault at fault fixed) = let e : status ≡ Sorts = fixed.status_is in cc
 solved_response lb la tb ta read text status is told end wrote (mixed d s spelled refused fixed) = let e : status ≡ Mixed = fixed.status_is in cc
 solved_response lb la tb ta read text status is told end wrote (done d f spelled derived fixed) = record {
   read = read;

@@ -2,7 +2,7 @@
 use Rattle.std.specs.Prelude.{ℕ, List, Option}
 use Rattle.std.specs.Io.KnownBytes.{Appends, Consumes, IsAtEnd}
 use Rattle.soqe_form.specs.declared.form.Form.{Form}
-use Rattle.soqe_text.specs.Small.{SpellsSmall}
+use Rattle.soqe_text.specs.Spelled.{Spells}
 use Rattle.soqe_deriv.specs.declared.document.Document.{Document}
 use Rattle.soqe_deriv.specs.Text.{document_text}
 use Rattle.soqe_deriv.specs.Valid.{IsAccepted}
@@ -18,7 +18,7 @@ pub record IsSolved (left_before left_after taken_before taken_after : Option (L
   pub whole : IsAtEnd left_after
   pub document : Document
   pub result : Form
-  pub spelled : SpellsSmall read document.problem
+  pub spelled : Spells read document.problem
   pub written : Appends taken_before taken_after (document_text document)
   pub accepted : IsAccepted document result
   pub answers : IsAnswerTo document.problem result

@@ -1,6 +1,6 @@
 use Rattle.std.specs.Prelude.{◌≡◌, ℕ, Bool, true, false, List, [], ◌∷◌, ◌++◌}
 use Rattle.soqe_run.specs.declared.status.Status.{Status}
-use Rattle.soqe_run.specs.declared.status.Status.TheVariants.{Done, Syntax, Mixed, NotBuilt}
+use Rattle.soqe_run.specs.declared.status.Status.TheVariants.{Done, Syntax, Names, Sorts, Mixed}
 
 -- a text and a line feed
 abbrev pub line : List ℕ → List ℕ
@@ -15,6 +15,7 @@ pub record IsFixed (fixed_status : Status) (fixed_text : List ℕ) (status : Sta
 abbrev pub is_reply : Status → Bool
 is_reply Done = true
 is_reply Syntax = true
+is_reply Names = true
+is_reply Sorts = true
 is_reply Mixed = true
-is_reply NotBuilt = true
 is_reply status = false

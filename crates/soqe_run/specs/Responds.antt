@@ -3,7 +3,7 @@ use Rattle.std.specs.Prelude.{ℕ, List, ◌++◌, codes}
 use Rattle.std.specs.Fmt.{decimal}
 use Rattle.soqe_form.specs.declared.form.Form.{Form}
 use Rattle.soqe_parse.specs.Faults.{IsFaultAt}
-use Rattle.soqe_text.specs.Small.{SpellsSmall, HasNoSmall}
+use Rattle.soqe_text.specs.Spelled.{Spells, HasNameFault, HasSortFault}
 use Rattle.soqe_deriv.specs.declared.document.Document.{Document}
 use Rattle.soqe_deriv.specs.declared.document.Stop.{Stop}
 use Rattle.soqe_deriv.specs.Text.{document_text}
@@ -13,7 +13,7 @@ use Rattle.soqe_flow.specs.declared.derivation.Wanted.TheVariants as wanted
 use Rattle.soqe_flow.specs.Ordered.{IsOrdered, Result, Stops}
 use Rattle.soqe_run.specs.Reply.{IsFixed, line}
 use Rattle.soqe_run.specs.declared.status.Status.{Status}
-use Rattle.soqe_run.specs.declared.status.Status.TheVariants.{Done, Syntax, Mixed, NotBuilt}
+use Rattle.soqe_run.specs.declared.status.Status.TheVariants.{Done, Syntax, Names, Sorts, Mixed}
 
 -- the document is the one that is due for its problem by signs, it is valid, and its result answers the problem
 pub record IsDerived (document : Document) (result : Form) : Type 0 where
@@ -29,8 +29,9 @@ pub record IsRefused (document : Document) (stop : Stop) : Type 0 where
 -- what the engine answers to the bytes of a text
 pub data Responds (bytes : List ℕ) (status : Status) (text : List ℕ) : Type 0 where
   syntax_fault : (at : ℕ) → IsFaultAt bytes at → IsFixed Syntax (line (codes "syntax at " ++ decimal at)) status text → Responds bytes status text
-  not_built : HasNoSmall bytes → IsFixed NotBuilt (line (codes "not built")) status text → Responds bytes status text
-  done : (document : Document) (result : Form) → SpellsSmall bytes document.problem → IsDerived document result
+  names_fault : (at : ℕ) → HasNameFault bytes at → IsFixed Names (line (codes "names at " ++ decimal at)) status text → Responds bytes status text
+  sorts_fault : (at : ℕ) → HasSortFault bytes at → IsFixed Sorts (line (codes "sorts at " ++ decimal at)) status text → Responds bytes status text
+  done : (document : Document) (result : Form) → Spells bytes document.problem → IsDerived document result
       → IsFixed Done (document_text document) status text → Responds bytes status text
-  mixed : (document : Document) (stop : Stop) → SpellsSmall bytes document.problem → IsRefused document stop
+  mixed : (document : Document) (stop : Stop) → Spells bytes document.problem → IsRefused document stop
       → IsFixed Mixed (document_text document) status text → Responds bytes status text

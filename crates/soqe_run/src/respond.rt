@@ -1,18 +1,17 @@
 ghost use Rattle.std.specs.Prelude.{◌≡◌, ◌<◌, ◌^◌, ◌++◌, ℕ, List, length, codes, IfOk, IsTrue};
 ghost use Rattle.std.specs.Fmt.{decimal};
-ghost use Rattle.soqe_text.specs.Small.{SpellsSmall};
+ghost use Rattle.soqe_text.specs.Spelled.{Spells};
 ghost use Rattle.soqe_text.specs.Sorted.{IsSorted};
 ghost use Rattle.soqe_deriv.specs.Text.{document_text};
 ghost use Rattle.soqe_flow.specs.Ordered.{EndsAsOrdered, EndsAsSound};
 ghost use Rattle.soqe_run.specs.Reply.{IsFixed, is_reply, line};
 ghost use Rattle.soqe_run.specs.Responds.{Responds};
 
-use crate::reply::fixed;
 use crate::{Reply, Status};
 use soqe_deriv::{Document, write_document};
 use soqe_flow::{FlowEnd, Wanted, elim};
 use soqe_io::Mem;
-use soqe_text::{Problem, SmallFault, read_small};
+use soqe_text::{Command, Problem, TextFault, read_problem};
 use std::alloc::{AllocError, Global};
 
 /// The engine: the reply to a text that isn't over its limit. The one error is want of memory.
@@ -21,18 +20,19 @@ pub(crate) fn respond(alloc: Global, bytes: &[u8]) -> Mem<Reply>
     ensures responds { IfOk result (λ reply. Responds bytes.now reply.status reply.text.items) }
     ensures status { IfOk result (λ reply. IsTrue (is_reply reply.status)) }
 {
-    match read_small(alloc, bytes) {
+    match read_problem(alloc, Command::Elim, bytes) {
         Ok(problem) => Ok(derive(alloc, problem)?),
-        Err(SmallFault::Syntax(at)) => Ok(syntax_at(alloc, at)?),
-        Err(SmallFault::NotBuilt) => Ok(fixed(alloc, Status::NotBuilt, "not built\n")?),
-        Err(SmallFault::Memory) => Err(AllocError),
+        Err(TextFault::Syntax(at)) => Ok(refused_at(alloc, Status::Syntax, "syntax at ", at)?),
+        Err(TextFault::Names(at)) => Ok(refused_at(alloc, Status::Names, "names at ", at)?),
+        Err(TextFault::Sorts(at)) => Ok(refused_at(alloc, Status::Sorts, "sorts at ", at)?),
+        Err(TextFault::Memory) => Err(AllocError),
     }
 }
 
 // The reply to a text that spells the problem: its derivation, with a result or with a stop.
 fn derive(alloc: Global, problem: Problem) -> Mem<Reply>
     requires { IsSorted problem }
-    ensures responds { IfOk result (λ reply. (bytes : List ℕ) → SpellsSmall bytes problem
+    ensures responds { IfOk result (λ reply. (bytes : List ℕ) → Spells bytes problem
         → Responds bytes reply.status reply.text.items) }
     ensures status { IfOk result (λ reply. IsTrue (is_reply reply.status)) }
 {
@@ -46,13 +46,13 @@ fn derive(alloc: Global, problem: Problem) -> Mem<Reply>
     }
 }
 
-// The derivation of a problem, which is needed no longer. A tree is dropped in a function with one way out.
+// The derivation of a problem, which moves into the document.
 fn derivation(alloc: Global, problem: Problem) -> Mem<FlowEnd>
     requires { IsSorted problem }
     ensures ordered { IfOk result (λ end. EndsAsOrdered Wanted.Sign problem end) }
     ensures sound { IfOk result (λ end. EndsAsSound Wanted.Sign end) }
 {
-    elim(alloc, &problem, Wanted::Sign)
+    elim(alloc, problem, Wanted::Sign)
 }
 
 // The reply with the text of a document.
@@ -70,14 +70,13 @@ fn text_of(alloc: Global, document: Document) -> Mem<Vec<u8>>
     write_document(alloc, &document)
 }
 
-// The reply to a text with its syntax fault at this offset.
-fn syntax_at(alloc: Global, at: u64) -> Mem<Reply>
-    ensures { IfOk result (λ reply. IsFixed Status.Syntax (line (codes "syntax at " ++ decimal at))
-        reply.status reply.text.items) }
+// The reply to a text that is refused, with the words in front of the offset.
+fn refused_at(alloc: Global, status: Status, words: &str, at: u64) -> Mem<Reply>
+    ensures { IfOk result (λ reply. IsFixed status (line (words.now ++ decimal at)) reply.status reply.text.items) }
 {
-    let text = format!(in alloc; "syntax at {at}\n")?;
+    let text = format!(in alloc; "{words}{at}\n")?;
     Ok(Reply {
-        status: Status::Syntax,
+        status,
         text: text.into_bytes(),
     })
 }

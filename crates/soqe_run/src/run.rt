@@ -20,8 +20,8 @@ const MAX_BYTES: u64 = 1_048_576;
 /// Takes the words, the program's name first, and the source's bytes to a text on the sink and a status.
 ///
 /// It reads the source first, then builds the whole text, and then writes it in pieces of at most 4,096 bytes. From
-/// the first write on it takes no memory. The order of refusals is: words, read fault, too long, those of the engine,
-/// write fault. Want of memory may come at any step before the first write.
+/// the first write on it takes no memory. The order of refusals is: words, read fault, too long, syntax, names, sorts,
+/// a stop of the method, write fault. Want of memory may come at any step before the first write.
 pub fn run<S: Source, O: Sink>(alloc: Global, words: &[String], src: &mut S, out: &mut O) -> Status
     ensures headline { result ≡ Status.Done
         → IsSolved (S.left src.old) (S.left src.new) (O.taken out.old) (O.taken out.new) }

@@ -10,6 +10,10 @@ pub enum Status {
     Usage,
     /// The text is no problem, and the answer tells the place from which none goes on.
     Syntax,
+    /// A name of the text is refused: the answer tells where it stands.
+    Names,
+    /// A name of the text is used as its sorts do not allow, or an equation is between two sorts: the answer tells where.
+    Sorts,
     /// The text is over its limit.
     TooLong,
     /// A read failed, and the source has counted a fault.
@@ -20,8 +24,6 @@ pub enum Status {
     Memory,
     /// The predicate of a block occurs with both signs. The document ends with the two places.
     Mixed,
-    /// The text is a problem, but none that the program can take yet.
-    NotBuilt,
 }
 
 impl Status {
@@ -33,12 +35,13 @@ impl Status {
             Status::Done => 0,
             Status::Usage => 2,
             Status::Syntax => 3,
+            Status::Names => 4,
+            Status::Sorts => 5,
             Status::TooLong => 6,
             Status::ReadFault => 7,
             Status::WriteFault => 8,
             Status::Memory => 9,
             Status::Mixed => 14,
-            Status::NotBuilt => 20,
         }
     }
 }

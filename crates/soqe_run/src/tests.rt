@@ -3,18 +3,18 @@ use soqe_io::{Failed, MemSink, MemSource, NullSink, RepeatSource, Source};
 use std::alloc::Global;
 use std::test::Fail;
 
-// A small problem of 52 bytes.
+// A problem of 52 bytes.
 const PROBLEM: &[u8] = b"pred Q(obj); goal ex2 P(obj). all x. (Q(x) -> P(x));";
 
-// The derivation of its goal, of 214 bytes: P occurs without negative sign.
+// The derivation of its goal, of 180 bytes: P occurs without negative sign.
 const DERIVATION: &[u8] = b"soqe 1 elim
 pred Q(obj);
 goal ex2 P(obj). all x. (Q(x) -> P(x));
 start ex2 P(obj). all x. (Q(x) -> P(x))
 block sign P
 replace true all x. (Q(x) -> true)
-close all x. (Q(x) -> true)
-result all x. (Q(x) -> true)
+close true
+result true
 end
 ";
 
@@ -33,8 +33,16 @@ goal all2 P(obj). all x. P(x);
 start all2 P(obj). all x. P(x)
 block sign P
 replace false all x. false
-close all x. false
-result all x. false
+close false
+result false
+end
+";
+
+// A goal without quantified predicates is its own result.
+const TRUE: &[u8] = b"soqe 1 elim
+goal true;
+start true
+result true
 end
 ";
 
@@ -63,7 +71,7 @@ fn outcome(
 
 #[test]
 fn an_answer_is_written_whole(rt: HostRuntime) -> Result<(), Fail> {
-    let cases: [(&[u8], Status, &[u8]); 12] = [
+    let cases: [(&[u8], Status, &[u8]); 14] = [
         (PROBLEM, Status::Done, DERIVATION),
         (
             b"goal ex2 P(obj). (all x. P(x) & all x. ~P(x));",
@@ -71,8 +79,17 @@ fn an_answer_is_written_whole(rt: HostRuntime) -> Result<(), Fail> {
             MIXED,
         ),
         (b"goal all2 P(obj). all x. P(x);", Status::Done, UNIVERSAL),
-        (b"goal true;", Status::NotBuilt, b"not built\n"),
-        (b"goal ex2 P(obj). P(x);", Status::NotBuilt, b"not built\n"),
+        // Nothing is to be eliminated.
+        (b"goal true;", Status::Done, TRUE),
+        // A name without declaration, and one bound round another place.
+        (b"goal ex2 P(obj). P(x);", Status::Names, b"names at 19\n"),
+        (b"goal (ex2 P. P) & P;", Status::Names, b"names at 18\n"),
+        // A predicate with too many arguments.
+        (
+            b"var x: obj; goal ex2 P. P(x);",
+            Status::Sorts,
+            b"sorts at 24\n",
+        ),
         // No problem goes on from these places: the end, a byte that begins no token, and a token out of place.
         (b"", Status::Syntax, b"syntax at 0\n"),
         (b"goal $;", Status::Syntax, b"syntax at 5\n"),
@@ -124,7 +141,7 @@ fn front_of(text: &[u8], count: usize) -> &[u8] {
 
 #[test]
 fn a_write_fails_at_each_call(rt: HostRuntime) -> Result<(), Fail> {
-    // 22 calls write the 214 bytes.
+    // 18 calls write the 180 bytes.
     for (before, front) in DERIVATION.chunks(10).enumerate() {
         let call = before as u64 + 1;
         let (ended, taken) = outcome(rt.alloc(), PROBLEM, &[], &[call])?;
@@ -139,7 +156,7 @@ fn a_write_fails_at_each_call(rt: HostRuntime) -> Result<(), Fail> {
     // The calls that fail at the source and at the sink, the status, and what is taken.
     let cases: [(&[u64], u64, Status, &[u8]); 4] = [
         (&[], 2, Status::WriteFault, b"soqe 1 eli"),
-        (&[], 23, Status::Done, DERIVATION),
+        (&[], 19, Status::Done, DERIVATION),
         (&[1], 1, Status::WriteFault, b""),
         (&[1], 2, Status::WriteFault, b"read fault"),
     ];
@@ -208,12 +225,13 @@ fn statuses_have_their_numbers(rt: HostRuntime) -> Result<(), Fail> {
         (Status::Done, 0),
         (Status::Usage, 2),
         (Status::Syntax, 3),
+        (Status::Names, 4),
+        (Status::Sorts, 5),
         (Status::TooLong, 6),
         (Status::ReadFault, 7),
         (Status::WriteFault, 8),
         (Status::Memory, 9),
         (Status::Mixed, 14),
-        (Status::NotBuilt, 20),
     ];
     for (status, number) in numbers {
         assert_eq!(rt; status.number(), number);
