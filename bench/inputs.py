@@ -6,21 +6,24 @@ import random
 import sys
 
 MIB = 1 << 20
+BY_SIGN = "elim --method sign"
 
 
 def conjuncts(size, seed):
-    """A problem of about the size, whose predicate occurs positively alone."""
+    """A problem of about the size over two sorts, with functions and equations. Its predicate occurs positively alone."""
     r = random.Random(seed)
-    decls = [f"pred Q{k}(obj);" for k in range(40)] + [f"pred R{k}(obj, obj);" for k in range(40)]
-    head = "\n".join(decls) + "\ngoal ex2 P(obj, obj). (\n"
+    head = ["sort item;"]
+    head += [f"fun c{k}:obj;" for k in range(40)] + [f"fun f{k}(obj):obj;" for k in range(10)] + [f"fun g{k}(obj, item):item;" for k in range(10)]
+    head += [f"pred Q{k}(obj);" for k in range(40)] + [f"pred R{k}(obj, item);" for k in range(40)]
+    head = "\n".join(head) + "\ngoal ex2 P(obj, item). (\n"
     parts, left = [], size - len(head) - 4
     while True:
         n = r.randrange
         part = r.choice([
-            lambda: f"all x. (Q{n(40)}(x) & ~Q{n(40)}(x) -> all z. P(x, z) & ex y. (R{n(40)}(x, y) | R{n(40)}(y, x)))",
-            lambda: f"all z. (Q{n(40)}(z) -> ex x. (R{n(40)}(x, z) & P(x, z) & ~Q{n(40)}(x)))",
-            lambda: f"(all x. (Q{n(40)}(x) | ~Q{n(40)}(x)) <-> all x. all y. (R{n(40)}(x, y) -> R{n(40)}(y, y)))",
-            lambda: f"ex x. ex y. (P(x, y) & R{n(40)}(x, y) & (Q{n(40)}(x) | Q{n(40)}(y)))",
+            lambda: f"all x. (Q{n(40)}(x) & x != c{n(40)} -> all z:item. P(x, z) & ex z:item. (R{n(40)}(x, z) | z = g{n(10)}(x, z)))",
+            lambda: f"all z:item. (R{n(40)}(c{n(40)}, z) -> ex x. (R{n(40)}(f{n(10)}(x), z) & P(x, z) & ~Q{n(40)}(f{n(10)}(f{n(10)}(x)))))",
+            lambda: f"(Q{n(40)}(c{n(40)}) | ~Q{n(40)}(f{n(10)}(c{n(40)})) <-> all x. all z:item. (R{n(40)}(x, z) -> R{n(40)}(f{n(10)}(x), z)))",
+            lambda: f"ex x. ex z:item. (P(x, z) & R{n(40)}(x, z) & (x = f{n(10)}(c{n(40)}) | Q{n(40)}(x)))",
         ])()
         left -= len(part) + 3
         if left < 0:
@@ -29,14 +32,23 @@ def conjuncts(size, seed):
 
 
 def nested(opening, closing, size):
+    """One atom below as many signs as fit."""
     depth = (size - 60) // (len(opening) + len(closing))
     return "pred Q;\ngoal ex2 P. " + opening * depth + "Q" + closing * depth + ";\n"
 
 
 def names(n):
-    decls = [f"pred Pred{k}(obj);" for k in range(n)]
-    parts = [f"all x{k}. (Pred{k}(x{k}) -> P(x{k}) & ~Pred{n - 1 - k}(x{k}))" for k in range(n)]
+    """n names of each kind: functions, predicates, free and bound variables."""
+    decls = [f"fun const{k}:obj;\npred Pred{k}(obj);\nvar free{k}:obj;" for k in range(n)]
+    parts = [f"all x{k}. (Pred{k}(x{k}) -> P(free{k}) & ~Pred{n - 1 - k}(const{k}))" for k in range(n)]
     return "\n".join(decls) + "\ngoal ex2 P(obj). (" + " &\n".join(parts) + ");\n"
+
+
+def blocks(n):
+    """n blocks side by side."""
+    decls = [f"pred Q{k}(obj);" for k in range(20)]
+    parts = [f"ex2 P(obj). all x. (Q{k % 20}(x) -> P(x) | Q{k * 7 % 20}(x))" for k in range(n)]
+    return "\n".join(decls) + "\ngoal " + " &\n".join(parts) + ";\n"
 
 
 def main():
@@ -50,14 +62,18 @@ def main():
         ("parentheses 1 MiB", nested("(", ")", MIB)),
         ("negations 1/4 MiB", nested("~", "", MIB // 4)),
         ("negations 1 MiB", nested("~", "", MIB)),
-        ("names 5,000 and 5,000", names(5000)),
-        ("names 10,000 and 10,000", names(10000)),
+        ("20,000 names", names(5000)),
+        ("32,000 names", names(8000)),
+        ("100 blocks", blocks(100)),
+        ("200 blocks", blocks(200)),
+        ("400 blocks", blocks(400)),
     ]
     for number, (name, text) in enumerate(inputs):
+        assert len(text) <= MIB, name
         path = os.path.join(folder, f"{number}.txt")
         with open(path, "w") as f:
             f.write(text)
-        print(f"{name}\telim --method sign\t{path}")
+        print(f"{name}\t{BY_SIGN}\t{path}")
 
 
 main()
