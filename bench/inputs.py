@@ -67,6 +67,7 @@ def main():
         ("100 blocks", blocks(100)),
         ("200 blocks", blocks(200)),
         ("400 blocks", blocks(400)),
+        ("1000 blocks", blocks(1000)),
     ]
     for number, (name, text) in enumerate(inputs):
         assert len(text) <= MIB, name
