@@ -1,0 +1,54 @@
+-- How many nodes the measured formulas have, and those with new numbers.
+use Rattle.std.proofs.Common.{◌≡◌, ℕ, zero, suc, ◌+◌, ◌*◌, List, refl, ap, arith}
+use Rattle.soqe_form.specs.declared.form.Form.{Form, True, False, Equal, Atom, Not', And', Or', Imp', Iff', All', Ex', All2', Ex2', end_of-Form as end, more_of-Form as one}
+use Rattle.soqe_form.specs.Boxes.{boxes}
+use Rattle.soqe_term.specs.World.{changed}
+use Rattle.std.specs.Prelude.{length, slice_index}
+use Rattle.soqe_norm.specs.Apart.{binders, renumbered}
+use Rattle.soqe_calls.specs.Nodes.{nodes}
+use Rattle.soqe_calls.specs.Shapes.{wide, deep, negations}
+
+one_part_more : (k n : ℕ) → n ≡ 10 * k + 1 → suc (n + 9) ≡ 10 * suc k + 1
+one_part_more k n e = omega (arith, e)
+
+one_more : (k n : ℕ) → n ≡ k + 1 → suc n ≡ suc k + 1
+one_more k n e = omega (arith, e)
+
+pub nodes-wide : (k : ℕ) → nodes (wide k) ≡ 10 * k + 1
+unfolding boxes
+nodes-wide zero = refl
+nodes-wide (suc k) = one_part_more k (nodes (wide k)) (nodes-wide k)
+
+pub nodes-deep : (k : ℕ) → nodes (deep k) ≡ k + 1
+unfolding boxes
+nodes-deep zero = refl
+nodes-deep (suc k) = one_more k (nodes (deep k)) (nodes-deep k)
+
+pub nodes-negations : (k : ℕ) → nodes (negations k) ≡ k + 1
+unfolding boxes
+nodes-negations zero = refl
+nodes-negations (suc k) = one_more k (nodes (negations k)) (nodes-negations k)
+
+both : (a b c d : ℕ) → a ≡ c → b ≡ d → suc (a + b) ≡ suc (c + d)
+both a b c d e h = λ i. suc (e i + h i)
+
+-- new numbers leave the nodes
+pub nodes-renumbered : (ns : List ℕ) (r : ℕ → ℕ) (at : ℕ) (f : Form) → nodes (renumbered ns r at f) ≡ nodes f
+unfolding boxes
+nodes-renumbered ns r at True = refl
+nodes-renumbered ns r at False = refl
+nodes-renumbered ns r at (Equal s t) = refl
+nodes-renumbered ns r at (Atom p ts) = refl
+nodes-renumbered ns r at (Not' _ (one f end)) = ap suc (nodes-renumbered ns r at f)
+nodes-renumbered ns r at (And' _ (one f end) _ (one g end)) =
+    both _ _ (nodes f) (nodes g) (nodes-renumbered ns r at f) (nodes-renumbered ns r (at + length (binders f)) g)
+nodes-renumbered ns r at (Or' _ (one f end) _ (one g end)) =
+    both _ _ (nodes f) (nodes g) (nodes-renumbered ns r at f) (nodes-renumbered ns r (at + length (binders f)) g)
+nodes-renumbered ns r at (Imp' _ (one f end) _ (one g end)) =
+    both _ _ (nodes f) (nodes g) (nodes-renumbered ns r at f) (nodes-renumbered ns r (at + length (binders f)) g)
+nodes-renumbered ns r at (Iff' _ (one f end) _ (one g end)) =
+    both _ _ (nodes f) (nodes g) (nodes-renumbered ns r at f) (nodes-renumbered ns r (at + length (binders f)) g)
+nodes-renumbered ns r at (All' x _ (one f end)) = ap suc (nodes-renumbered ns (changed r x.num (slice_index ns at)) (suc at) f)
+nodes-renumbered ns r at (Ex' x _ (one f end)) = ap suc (nodes-renumbered ns (changed r x.num (slice_index ns at)) (suc at) f)
+nodes-renumbered ns r at (All2' p _ (one f end)) = ap suc (nodes-renumbered ns r at f)
+nodes-renumbered ns r at (Ex2' p _ (one f end)) = ap suc (nodes-renumbered ns r at f)

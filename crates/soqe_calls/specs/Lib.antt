@@ -1,0 +1,5 @@
+pub mod Nodes
+pub mod Shapes
+pub mod Words
+pub mod Answers
+pub mod Listed

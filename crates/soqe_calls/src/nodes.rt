@@ -1,0 +1,40 @@
+//! How many nodes a formula has.
+#![tactic(auto, unfolding(soqe_form::specs::Boxes::boxes))]
+
+ghost use Rattle.std.specs.Prelude.{◌≡◌, ◌≤◌, ◌+◌, ◌^◌, MatchOption};
+ghost use Rattle.soqe_calls.specs.Nodes.{nodes as nodes_of};
+
+use soqe_form::Form;
+
+/// How many nodes the formula has, or nothing where there are 2^64 or more. It takes no memory.
+pub fn nodes(form: &Form) -> Option<u64>
+    ensures { MatchOption result (2 ^ 64 ≤ nodes_of form.now) (λ n. n ≡ nodes_of form.now) }
+{
+    counted(form, 0)
+}
+
+/// The nodes of the formula and those that were counted before.
+fn counted(form: &Form, before: u64) -> Option<u64>
+    ensures { MatchOption result (2 ^ 64 ≤ before + nodes_of form.now) (λ n. n ≡ before + nodes_of form.now) }
+{
+    match form {
+        Form::True | Form::False | Form::Equal(_, _) | Form::Atom(_, _) => before.checked_add(1),
+        Form::Not(f) => {
+            let count = counted(f.get(), before)?;
+            count.checked_add(1)
+        }
+        Form::All(_, f) | Form::Ex(_, f) => {
+            let count = counted(f.get(), before)?;
+            count.checked_add(1)
+        }
+        Form::All2(_, f) | Form::Ex2(_, f) => {
+            let count = counted(f.get(), before)?;
+            count.checked_add(1)
+        }
+        Form::And(f, g) | Form::Or(f, g) | Form::Imp(f, g) | Form::Iff(f, g) => {
+            let count = counted(f.get(), before)?;
+            let count = counted(g.get(), count)?;
+            count.checked_add(1)
+        }
+    }
+}
