@@ -3,6 +3,9 @@
 //!
 //! Read `specs/World.antt` and `specs/Value.antt` for what a term means, `specs/Structures.antt` for the finite
 //! structures over which every theorem of the suite is stated, and `specs/Declarations.antt` for what a signature says.
+//!
+//! What walks over a term recurses as deep as the term nests, at each level once for each argument up to the one it is in.
+//! A term that is let go does so too.
 #![tactic(auto)]
 
 mod bindings;

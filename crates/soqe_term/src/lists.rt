@@ -29,18 +29,21 @@ impl Sorts {
         }
     }
 
+    /// The items of a vector. It takes no memory.
     pub fn from_vec(items: Vec<u32>) -> Sorts
         ensures { result ≡ items.items }
     {
         Sorts { items }
     }
 
+    /// The sorts, in order. It takes no memory.
     pub fn as_slice(&self) -> &[u32]
         ensures { result.now ≡ self.now }
     {
         self.items.as_slice()
     }
 
+    /// Adds a sort at the end. After want of memory nothing has changed.
     pub fn push(&mut self, sort: u32) -> Mem<()>
         ensures ok { OnOk result (self.new ≡ self.old ++ sort ∷ []) }
         ensures err { OnErr result (self.new ≡ self.old) }
@@ -49,6 +52,7 @@ impl Sorts {
         Ok(())
     }
 
+    /// Sorts that equal these.
     pub fn copy(&self, alloc: Global) -> Mem<Sorts>
         ensures { IfOk result (λ copy. copy ≡ self.now) }
     {
@@ -81,18 +85,21 @@ impl Nums {
         }
     }
 
+    /// The items of a vector. It takes no memory.
     pub fn from_vec(items: Vec<u64>) -> Nums
         ensures { result ≡ items.items }
     {
         Nums { items }
     }
 
+    /// The numbers, in order. It takes no memory.
     pub fn as_slice(&self) -> &[u64]
         ensures { result.now ≡ self.now }
     {
         self.items.as_slice()
     }
 
+    /// Adds a number at the end. After want of memory nothing has changed.
     pub fn push(&mut self, num: u64) -> Mem<()>
         ensures ok { OnOk result (self.new ≡ self.old ++ num ∷ []) }
         ensures err { OnErr result (self.new ≡ self.old) }
@@ -101,6 +108,7 @@ impl Nums {
         Ok(())
     }
 
+    /// Numbers that equal these.
     pub fn copy(&self, alloc: Global) -> Mem<Nums>
         ensures { IfOk result (λ copy. copy ≡ self.now) }
     {
@@ -133,18 +141,21 @@ impl NumLists {
         }
     }
 
+    /// The lists, in order. It takes no memory.
     pub fn as_slice(&self) -> &[Nums]
         ensures { result.now ≡ self.now }
     {
         self.items.as_slice()
     }
 
+    /// The number of lists.
     pub fn len(&self) -> usize
         ensures { result ≡ length self.now }
     {
         self.items.len()
     }
 
+    /// Adds a list at the end. After want of memory nothing has changed.
     pub fn push(&mut self, nums: Nums) -> Mem<()>
         ensures ok { OnOk result (self.new ≡ self.old ++ nums ∷ []) }
         ensures err { OnErr result (self.new ≡ self.old) }
@@ -190,12 +201,14 @@ impl Vars {
         }
     }
 
+    /// The variables, in order. It takes no memory.
     pub fn as_slice(&self) -> &[Var]
         ensures { result.now ≡ self.now }
     {
         self.items.as_slice()
     }
 
+    /// Adds a variable at the end. After want of memory nothing has changed.
     pub fn push(&mut self, variable: Var) -> Mem<()>
         ensures ok { OnOk result (self.new ≡ self.old ++ variable ∷ []) }
         ensures err { OnErr result (self.new ≡ self.old) }
@@ -204,6 +217,7 @@ impl Vars {
         Ok(())
     }
 
+    /// Variables that equal these.
     pub fn copy(&self, alloc: Global) -> Mem<Vars>
         ensures { IfOk result (λ copy. copy ≡ self.now) }
     {

@@ -53,12 +53,14 @@ impl SkolemSigs {
         }
     }
 
+    /// The entries, in order. It takes no memory.
     pub fn as_slice(&self) -> &[SkolemSig]
         ensures { result.now ≡ self.now }
     {
         self.items.as_slice()
     }
 
+    /// Adds an entry at the end. After want of memory nothing has changed.
     pub fn push(&mut self, skolem: SkolemSig) -> Mem<()>
         ensures ok { OnOk result (self.new ≡ self.old ++ skolem ∷ []) }
         ensures err { OnErr result (self.new ≡ self.old) }

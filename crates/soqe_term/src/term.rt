@@ -21,6 +21,7 @@ pub enum Sym {
     Skolem(u64),
 }
 
+/// A term: a variable, or a symbol applied to terms.
 #[cycle(term)]
 #[derive(Drop)]
 pub enum Term {

@@ -7,6 +7,18 @@ mod terms;
 mod words;
 
 use crate::least_unused;
+use std::alloc::Global;
+
+/// Whether the least number that the numbers below a count lack is the count.
+fn lacks_its_length(alloc: Global, count: u64) -> bool {
+    let mut used = Vec::new(alloc);
+    for num in 0..count {
+        if used.push(num).is_err() {
+            return false;
+        }
+    }
+    least_unused(&used) == count
+}
 
 #[test]
 fn the_least_number_that_is_unused(rt: HostRuntime) {
@@ -19,5 +31,12 @@ fn the_least_number_that_is_unused(rt: HostRuntime) {
     ];
     for (used, least) in cases {
         assert!(rt; least_unused(used) == least);
+    }
+}
+
+#[test]
+fn the_least_number_that_a_long_list_lacks(rt: HostRuntime) {
+    for count in [63, 64, 4095, 4096, 262_144, 262_145, 600_000] {
+        assert!(rt; lacks_its_length(rt.alloc(), count));
     }
 }

@@ -2,42 +2,57 @@
 ghost use Rattle.std.specs.Prelude.{◌≡◌, ◌<◌, ◌≤◌, ◌+◌, ℕ, true, false, length, slice_index_or, EachIndex};
 ghost use Rattle.soqe_term.specs.Unused.{member, IsLeastUnused};
 
-/// How many numbers one pass over many used numbers tells apart.
-const WINDOW: u64 = 4096;
-
-/// The least number that isn't in the slice. It takes no memory, and one pass over the slice for each 4,096 numbers up to
-/// the answer.
+/// The least number that isn't in the slice. It takes no memory, but up to 256 KiB of the call stack. It goes over the slice
+/// once where it has fewer than 262,144 numbers, and else once for each 262,144 up to the answer.
 pub fn least_unused(used: &[u64]) -> u64
     ensures { IsLeastUnused used.now result }
 {
     if used.len() < 64 {
         least_of_few(used)
+    } else if used.len() < 4096 {
+        least_of_some(used)
     } else {
         least_of_many(used)
     }
 }
 
-/// The least number that isn't in a short slice, by a small table.
+/// The least number that isn't in the slice, by a table for a short one.
 fn least_of_few(used: &[u64]) -> u64
-    requires { length used.now < 64 }
     ensures { IsLeastUnused used.now result }
 {
     let mut marks = [false; 64];
-    let count = count_from(used, 0, &mut marks) as u64;
-    if count < 64 { count } else { used.len() as u64 }
+    least_by_windows(used, &mut marks)
 }
 
-/// The least number that isn't in the slice, by one window of numbers after another.
-fn least_of_many(used: &[u64]) -> u64
+/// The least number that isn't in the slice, by a table for a longer one.
+fn least_of_some(used: &[u64]) -> u64
     ensures { IsLeastUnused used.now result }
 {
     let mut marks = [false; 4096];
-    for window in 0..used.len() as u64 / WINDOW + 1 {
-        let base = window * WINDOW;
-        let count = count_from(used, base, &mut marks) as u64;
-        if count < WINDOW {
+    least_by_windows(used, &mut marks)
+}
+
+/// The least number that isn't in the slice, by a table so large that it stays out of the frame of a call on a short one.
+#[inline(never)]
+fn least_of_many(used: &[u64]) -> u64
+    ensures { IsLeastUnused used.now result }
+{
+    let mut marks = [false; 262_144];
+    least_by_windows(used, &mut marks)
+}
+
+/// The least number that isn't in the slice, by one window of numbers after another, each as wide as the marks.
+fn least_by_windows(used: &[u64], marks: &mut [bool]) -> u64
+    requires { 0 < length marks.old }
+    ensures { IsLeastUnused used.now result }
+{
+    let mut base = 0;
+    while base < used.len() as u64 {
+        let count = count_from(used, base, marks) as u64;
+        if count < marks.len() as u64 {
             return base + count;
         }
+        base += count;
     }
     used.len() as u64
 }
