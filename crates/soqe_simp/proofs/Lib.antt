@@ -16,4 +16,8 @@ pub mod Steps
 pub mod Children
 pub mod Simplifies
 pub mod Simple
+pub mod Settled
 pub mod Readies
+mod Positions
+mod TakenSteps
+mod EndsOf

@@ -1,6 +1,6 @@
 -- A formula that was made simple is simple, and a simple one stays as it is. The depth that bounds the definition does not
 -- matter, once it is the weight of the formula.
-use Rattle.std.proofs.Common.{◌≡◌, ℕ, zero, suc, ◌<◌, ◌≤◌, true, not, Some, None, refl, sym, ◌∙◌, ap, arith}
+use Rattle.std.proofs.Common.{◌≡◌, ℕ, zero, suc, ◌<◌, ◌≤◌, true, not, Some, None, refl, ◌∙◌, ap, arith}
 use Rattle.std.specs.Prelude.{is_some}
 use Rattle.soqe_form.specs.declared.form.Form.{Form}
 use Rattle.soqe_form.proofs.SameCases.{never}
@@ -58,10 +58,6 @@ simplify-root f =
     (λ a less. simplified-enough (weight f) (weight a) a (omega (arith, less, children-weigh (weight f) f)) (omega (arith)))
     ∙ ap (root_simplified simplify) (children-equal (simplified (weight f)) simplify f
     (children-lighter (λ a. simplified (weight f) a ≡ simplify a) f (λ a less. simplified-enough (weight f) (weight a) a (omega (arith, less)) (omega (arith)))))
-
--- what is settled at the root, once the children are simple, is the formula made simple
-pub simplify-settled : (f g r : Form) → g ≡ on_children simplify f → r ≡ root_simplified simplify g → r ≡ simplify f
-simplify-settled f g r children root = root ∙ ap (root_simplified simplify) children ∙ sym (simplify-root f)
 
 pub settled-none : (f : Form) → is_settled f ≡ true → step f ≡ None
 settled-none f h = at_option (λ o. not (is_some o) ≡ true → o ≡ None) (step f) (λ e k. refl) (λ r e k. never k) h

@@ -9,3 +9,6 @@ pub mod Simplified
 pub mod Normal
 pub mod Simplifies
 pub mod Ready
+pub mod RowTables
+pub mod Stepped
+pub mod Ends

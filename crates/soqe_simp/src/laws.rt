@@ -3,6 +3,7 @@
 ghost use Rattle.soqe_simp.specs.Rows.{not_true, not_false, not_not, equal_itself, true_and, and_true, false_and, and_false, and_same, and_opposite, opposite_and, true_or, or_true, false_or, or_false, or_same, or_opposite, opposite_or, not_or, or_not, true_implies, false_implies, implies_true, implies_false, implies_itself, implies_implication, implies_negation, true_iff, iff_true, false_iff, iff_false, iff_itself, unused_variable, unused_predicate, solved_some, solved_negation, solved_condition};
 ghost use Rattle.soqe_simp.specs.Keeps.{RowKeeps, RowKeepsIn, StepKeeps};
 ghost use Rattle.soqe_simp.specs.Simplifies.{SimplifyKeeps, SimplifyIsSimple, SimpleStays};
+ghost use Rattle.soqe_simp.specs.RowTables.{CodesLeadBack, NamesLeadBack};
 
 /// What each row for ~A and t = u keeps.
 pub fn negation_rows()
@@ -75,4 +76,10 @@ pub fn simple_formulas()
     ensures kept { SimplifyKeeps }
     ensures simple { SimplifyIsSimple }
     ensures stays { SimpleStays }
+{}
+
+/// The two calls on a table of names undo each other.
+pub fn row_tables()
+    ensures codes { CodesLeadBack }
+    ensures names { NamesLeadBack }
 {}

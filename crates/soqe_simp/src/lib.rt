@@ -2,15 +2,22 @@
 //!
 //! Read `specs/Rows.antt` first: each row, and the table of them. `specs/Step.antt` says which row applies at the root of a
 //! formula, `specs/Simplified.antt` what is left when no row applies any more, and `specs/Normal.antt` what that means.
+//! `specs/RowTables.antt` has the names of the rows.
 #![tactic(auto)]
 
 mod conjuncts;
 pub mod laws;
+mod parts;
+mod questions;
+mod results;
 mod rewriting;
+mod row_table;
 mod rows;
 mod simplifying;
+mod stepping;
 #[cfg(test)]
 mod tests;
 
 pub use rewriting::{Rewritten, step};
+pub use row_table::{RowTable, row_names};
 pub use simplifying::simplify;

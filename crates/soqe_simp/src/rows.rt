@@ -1,208 +1,51 @@
-//! The rows that can apply at each node, in the order of the table. A row that gives a part of the formula copies it.
+//! The rows that can apply at each node, in the order of the table.
 #![tactic(auto, unfolding(soqe_form::specs::Boxes::boxes))]
 
-ghost use Rattle.std.specs.Prelude.{◌≡◌, IfOk, Some, Bool, true, false};
-ghost use Rattle.soqe_term.specs.Sorting.{own_sort};
+ghost use Rattle.std.specs.Prelude.{◌≡◌, IfOk, []};
 ghost use Rattle.soqe_form.specs.declared.form.Form.{Equal, Not, And, Or, Imp, Iff, All, Ex, All2, Ex2};
-ghost use Rattle.soqe_form.specs.Constants.{constant as constant_of};
-ghost use Rattle.soqe_form.specs.Free.{free_pred};
-ghost use Rattle.soqe_form.specs.Same.{same as same_of, is_true as is_true_of, is_false as is_false_of, is_not};
 ghost use Rattle.std.specs.Option.{option_map};
-ghost use Rattle.soqe_simp.specs.Rows.{with_solution as with_solution_of, not_or, or_not, implies_implication, implies_negation};
+ghost use Rattle.soqe_simp.specs.declared.stepping.Stepped.TheVariants.{Settled, Made};
+ghost use Rattle.soqe_simp.specs.Conjuncts.{below_alls, solved_not, solved_imp};
+ghost use Rattle.soqe_simp.specs.Rows.{not_or, or_not, implies_implication, implies_negation};
 ghost use Rattle.soqe_simp.specs.Shapes.{first_of};
-ghost use Rattle.soqe_simp.specs.Step.{step as step_of, by_row};
+ghost use Rattle.soqe_simp.specs.Step.{by_row};
+ghost use Rattle.soqe_simp.specs.Stepped.{stepped, stepped_by, denied as denied_of, parts as parts_of};
 
 use crate::conjuncts::{Passed, Solved, find, find_in_condition, find_in_negation};
-use crate::rewriting::Rewritten;
-use soqe_form::make::{conjunction, constant, implication, negation};
-use soqe_form::{Form, PVar, Pred, copy_boxed, has_free_pred, is_free, same, subst};
+use crate::parts::{Implication, denied, implication_parts};
+use crate::questions::{
+    denies, ends_in_implication, ends_in_negation, is_denied, is_false, is_free_pred, is_true,
+};
+use crate::results::{gives, gives_constant, gives_implication, gives_negation, with_solution};
+use crate::stepping::Stepped;
+use soqe_form::make::{
+    conjunction, disjunction, equivalence, exists, exists_table, for_all, for_all_tables,
+    implication, negation,
+};
+use soqe_form::{Form, PVar, is_free, same};
 use soqe_term::{Mem, Term, Var};
 use sqlite_items::Boxed;
 use std::alloc::Global;
 
-fn is_true(form: &Form) -> bool
-    ensures { result ≡ is_true_of form.now }
-{
-    match form {
-        Form::True => true,
-        Form::False
-        | Form::Equal(_, _)
-        | Form::Atom(_, _)
-        | Form::Not(_)
-        | Form::And(_, _)
-        | Form::Or(_, _)
-        | Form::Imp(_, _)
-        | Form::Iff(_, _)
-        | Form::All(_, _)
-        | Form::Ex(_, _)
-        | Form::All2(_, _)
-        | Form::Ex2(_, _) => false,
-    }
-}
-
-fn is_false(form: &Form) -> bool
-    ensures { result ≡ is_false_of form.now }
-{
-    match form {
-        Form::False => true,
-        Form::True
-        | Form::Equal(_, _)
-        | Form::Atom(_, _)
-        | Form::Not(_)
-        | Form::And(_, _)
-        | Form::Or(_, _)
-        | Form::Imp(_, _)
-        | Form::Iff(_, _)
-        | Form::All(_, _)
-        | Form::Ex(_, _)
-        | Form::All2(_, _)
-        | Form::Ex2(_, _) => false,
-    }
-}
-
-/// Whether the formula is ~A for an A that is the same as the other.
-fn is_denied(form: &Form, other: &Form) -> bool
-    ensures { result ≡ is_not (same_of other.now) form.now }
-{
-    match form {
-        Form::Not(f) => same(other, f.get()),
-        Form::True
-        | Form::False
-        | Form::Equal(_, _)
-        | Form::Atom(_, _)
-        | Form::And(_, _)
-        | Form::Or(_, _)
-        | Form::Imp(_, _)
-        | Form::Iff(_, _)
-        | Form::All(_, _)
-        | Form::Ex(_, _)
-        | Form::All2(_, _)
-        | Form::Ex2(_, _) => false,
-    }
-}
-
-/// Whether the formula is ~A for an A with which the other is the same.
-fn denies(form: &Boxed<Form>, other: &Boxed<Form>) -> bool
-    ensures { result ≡ is_not (λ f. same_of f other.now) form.now }
-{
-    match form.get() {
-        Form::Not(f) => same(f.get(), other.get()),
-        Form::True
-        | Form::False
-        | Form::Equal(_, _)
-        | Form::Atom(_, _)
-        | Form::And(_, _)
-        | Form::Or(_, _)
-        | Form::Imp(_, _)
-        | Form::Iff(_, _)
-        | Form::All(_, _)
-        | Form::Ex(_, _)
-        | Form::All2(_, _)
-        | Form::Ex2(_, _) => false,
-    }
-}
-
-fn is_free_pred(form: &Form, num: u64) -> bool
-    ensures { result ≡ free_pred num form.now }
-{
-    has_free_pred(form, &Pred::Bound(num))
-}
-
-/// The row gave a formula that is there.
-fn gives(alloc: Global, row: u8, form: &Boxed<Form>) -> Mem<Option<Rewritten>>
-    ensures { IfOk result (λ r. r ≡ Some (by_row row form.now)) }
-{
-    let form = copy_boxed(alloc, form)?;
-    Ok(Some(Rewritten { row, form }))
-}
-
-/// The row gave a truth value.
-fn gives_constant(alloc: Global, row: u8, value: bool) -> Mem<Option<Rewritten>>
-    ensures { IfOk result (λ r. r ≡ Some (by_row row (constant_of value))) }
-{
-    let form = constant(alloc, value)?;
-    Ok(Some(Rewritten { row, form }))
-}
-
-/// The row gave the negation of a formula that is there.
-fn gives_negation(alloc: Global, row: u8, form: &Boxed<Form>) -> Mem<Option<Rewritten>>
-    ensures { IfOk result (λ r. r ≡ Some (by_row row (Not form.now))) }
-{
-    let form = copy_boxed(alloc, form)?;
-    let form = negation(alloc, form)?;
-    Ok(Some(Rewritten { row, form }))
-}
-
-/// The row gave an implication of formulas that are there.
-fn gives_implication(
-    alloc: Global,
-    row: u8,
-    f: &Boxed<Form>,
-    g: &Boxed<Form>,
-) -> Mem<Option<Rewritten>>
-    ensures { IfOk result (λ r. r ≡ Some (by_row row (Imp f.now g.now))) }
-{
-    let f = copy_boxed(alloc, f)?;
-    let g = copy_boxed(alloc, g)?;
-    let form = implication(alloc, f, g)?;
-    Ok(Some(Rewritten { row, form }))
-}
-
-/// A -> (B -> C) gave A & B -> C.
-fn joined(
-    alloc: Global,
-    a: &Boxed<Form>,
-    b: &Boxed<Form>,
-    c: &Boxed<Form>,
-) -> Mem<Option<Rewritten>>
-    ensures { IfOk result (λ r. r ≡ Some (by_row 26 (Imp (And a.now b.now) c.now))) }
-{
-    let a = copy_boxed(alloc, a)?;
-    let b = copy_boxed(alloc, b)?;
-    let c = copy_boxed(alloc, c)?;
-    let both = conjunction(alloc, a, b)?;
-    let form = implication(alloc, both, c)?;
-    Ok(Some(Rewritten { row: 26, form }))
-}
-
-/// A -> ~B gave ~(A & B).
-fn excluded(alloc: Global, a: &Boxed<Form>, b: &Boxed<Form>) -> Mem<Option<Rewritten>>
-    ensures { IfOk result (λ r. r ≡ Some (by_row 27 (Not (And a.now b.now)))) }
-{
-    let a = copy_boxed(alloc, a)?;
-    let b = copy_boxed(alloc, b)?;
-    let both = conjunction(alloc, a, b)?;
-    let form = negation(alloc, both)?;
-    Ok(Some(Rewritten { row: 27, form }))
-}
-
-/// A conjunct was found that says what x is.
-fn with_solution(alloc: Global, row: u8, x: Var, found: Solved) -> Mem<Option<Rewritten>>
-    requires { own_sort found.term ≡ x.sort }
-    ensures { IfOk result (λ r. r ≡ Some (by_row row (with_solution_of x found))) }
-{
-    let form = subst(alloc, found.rest.get(), x, &found.term)?;
-    Ok(Some(Rewritten { row, form }))
-}
-
 /// The rows for s = t.
-pub fn at_equal(alloc: Global, s: &Term, t: &Term) -> Mem<Option<Rewritten>>
-    ensures { IfOk result (λ r. r ≡ step_of (Equal s.now t.now)) }
+pub fn at_equal(alloc: Global, s: Term, t: Term) -> Mem<Stepped>
+    ensures { IfOk result (λ r. r ≡ stepped (Equal s t)) }
 {
-    if s.equals(t) {
+    if s.equals(&t) {
         return gives_constant(alloc, 4, true);
     }
-    Ok(None)
+    let form = Boxed::new(alloc, Form::Equal(s, t))?;
+    Ok(Stepped::Settled(form))
 }
 
 /// The rows for ~A.
-pub fn at_not(alloc: Global, a: &Boxed<Form>) -> Mem<Option<Rewritten>>
-    ensures { IfOk result (λ r. r ≡ step_of (Not a.now)) }
+pub fn at_not(alloc: Global, a: Boxed<Form>) -> Mem<Stepped>
+    ensures { IfOk result (λ r. r ≡ stepped (Not a)) }
 {
     match a.get() {
         Form::True => gives_constant(alloc, 1, false),
         Form::False => gives_constant(alloc, 2, true),
-        Form::Not(b) => gives(alloc, 3, b),
+        Form::Not(_) => twice_denied(alloc, a),
         Form::Equal(_, _)
         | Form::Atom(_, _)
         | Form::And(_, _)
@@ -212,19 +55,34 @@ pub fn at_not(alloc: Global, a: &Boxed<Form>) -> Mem<Option<Rewritten>>
         | Form::All(_, _)
         | Form::Ex(_, _)
         | Form::All2(_, _)
-        | Form::Ex2(_, _) => Ok(None),
+        | Form::Ex2(_, _) => settled_negation(alloc, a),
     }
 }
 
+/// ~~A gave A.
+fn twice_denied(alloc: Global, a: Boxed<Form>) -> Mem<Stepped>
+    ensures { IfOk result (λ r. r ≡ Made (by_row 3 (denied_of a))) }
+{
+    let b = denied(alloc, a)?;
+    gives(3, b)
+}
+
+fn settled_negation(alloc: Global, a: Boxed<Form>) -> Mem<Stepped>
+    ensures { IfOk result (λ r. r ≡ Settled (Not a)) }
+{
+    let form = negation(alloc, a)?;
+    Ok(Stepped::Settled(form))
+}
+
 /// The rows for A & B.
-pub fn at_and(alloc: Global, a: &Boxed<Form>, b: &Boxed<Form>) -> Mem<Option<Rewritten>>
-    ensures { IfOk result (λ r. r ≡ step_of (And a.now b.now)) }
+pub fn at_and(alloc: Global, a: Boxed<Form>, b: Boxed<Form>) -> Mem<Stepped>
+    ensures { IfOk result (λ r. r ≡ stepped (And a b)) }
 {
     if is_true(a.get()) {
-        return gives(alloc, 5, b);
+        return gives(5, b);
     }
     if is_true(b.get()) {
-        return gives(alloc, 6, a);
+        return gives(6, a);
     }
     if is_false(a.get()) {
         return gives_constant(alloc, 7, false);
@@ -233,20 +91,21 @@ pub fn at_and(alloc: Global, a: &Boxed<Form>, b: &Boxed<Form>) -> Mem<Option<Rew
         return gives_constant(alloc, 8, false);
     }
     if same(a.get(), b.get()) {
-        return gives(alloc, 9, a);
+        return gives(9, a);
     }
     if is_denied(b.get(), a.get()) {
         return gives_constant(alloc, 10, false);
     }
-    if denies(a, b) {
+    if denies(&a, &b) {
         return gives_constant(alloc, 11, false);
     }
-    Ok(None)
+    let form = conjunction(alloc, a, b)?;
+    Ok(Stepped::Settled(form))
 }
 
 /// The rows for A | B.
-pub fn at_or(alloc: Global, a: &Boxed<Form>, b: &Boxed<Form>) -> Mem<Option<Rewritten>>
-    ensures { IfOk result (λ r. r ≡ step_of (Or a.now b.now)) }
+pub fn at_or(alloc: Global, a: Boxed<Form>, b: Boxed<Form>) -> Mem<Stepped>
+    ensures { IfOk result (λ r. r ≡ stepped (Or a b)) }
 {
     if is_true(a.get()) {
         return gives_constant(alloc, 12, true);
@@ -255,29 +114,29 @@ pub fn at_or(alloc: Global, a: &Boxed<Form>, b: &Boxed<Form>) -> Mem<Option<Rewr
         return gives_constant(alloc, 13, true);
     }
     if is_false(a.get()) {
-        return gives(alloc, 14, b);
+        return gives(14, b);
     }
     if is_false(b.get()) {
-        return gives(alloc, 15, a);
+        return gives(15, a);
     }
     if same(a.get(), b.get()) {
-        return gives(alloc, 16, a);
+        return gives(16, a);
     }
     if is_denied(b.get(), a.get()) {
         return gives_constant(alloc, 17, true);
     }
-    if denies(a, b) {
+    if denies(&a, &b) {
         return gives_constant(alloc, 18, true);
     }
     or_denied(alloc, a, b)
 }
 
 /// The rows for A | B where A or B is a negation.
-fn or_denied(alloc: Global, a: &Boxed<Form>, b: &Boxed<Form>) -> Mem<Option<Rewritten>>
-    ensures { IfOk result (λ r. r ≡ first_of (option_map (by_row 19) (not_or (Or a.now b.now))) (option_map (by_row 20) (or_not (Or a.now b.now)))) }
+fn or_denied(alloc: Global, a: Boxed<Form>, b: Boxed<Form>) -> Mem<Stepped>
+    ensures { IfOk result (λ r. r ≡ stepped_by (first_of (option_map (by_row 19) (not_or (Or a b))) (option_map (by_row 20) (or_not (Or a b)))) (Or a b)) }
 {
     match a.get() {
-        Form::Not(c) => gives_implication(alloc, 19, c, b),
+        Form::Not(_) => denied_implies(alloc, 19, a, b),
         Form::True
         | Form::False
         | Form::Equal(_, _)
@@ -294,11 +153,11 @@ fn or_denied(alloc: Global, a: &Boxed<Form>, b: &Boxed<Form>) -> Mem<Option<Rewr
 }
 
 /// The row for A | ~B.
-fn or_second_denied(alloc: Global, a: &Boxed<Form>, b: &Boxed<Form>) -> Mem<Option<Rewritten>>
-    ensures { IfOk result (λ r. r ≡ option_map (by_row 20) (or_not (Or a.now b.now))) }
+fn or_second_denied(alloc: Global, a: Boxed<Form>, b: Boxed<Form>) -> Mem<Stepped>
+    ensures { IfOk result (λ r. r ≡ stepped_by (option_map (by_row 20) (or_not (Or a b))) (Or a b)) }
 {
     match b.get() {
-        Form::Not(c) => gives_implication(alloc, 20, c, a),
+        Form::Not(_) => denied_implies(alloc, 20, b, a),
         Form::True
         | Form::False
         | Form::Equal(_, _)
@@ -310,16 +169,31 @@ fn or_second_denied(alloc: Global, a: &Boxed<Form>, b: &Boxed<Form>) -> Mem<Opti
         | Form::All(_, _)
         | Form::Ex(_, _)
         | Form::All2(_, _)
-        | Form::Ex2(_, _) => Ok(None),
+        | Form::Ex2(_, _) => settled_disjunction(alloc, a, b),
     }
 }
 
+/// What ~A denies implies B.
+fn denied_implies(alloc: Global, row: u8, a: Boxed<Form>, b: Boxed<Form>) -> Mem<Stepped>
+    ensures { IfOk result (λ r. r ≡ Made (by_row row (Imp (denied_of a) b))) }
+{
+    let c = denied(alloc, a)?;
+    gives_implication(alloc, row, c, b)
+}
+
+fn settled_disjunction(alloc: Global, a: Boxed<Form>, b: Boxed<Form>) -> Mem<Stepped>
+    ensures { IfOk result (λ r. r ≡ Settled (Or a b)) }
+{
+    let form = disjunction(alloc, a, b)?;
+    Ok(Stepped::Settled(form))
+}
+
 /// The rows for A -> B.
-pub fn at_imp(alloc: Global, a: &Boxed<Form>, b: &Boxed<Form>) -> Mem<Option<Rewritten>>
-    ensures { IfOk result (λ r. r ≡ step_of (Imp a.now b.now)) }
+pub fn at_imp(alloc: Global, a: Boxed<Form>, b: Boxed<Form>) -> Mem<Stepped>
+    ensures { IfOk result (λ r. r ≡ stepped (Imp a b)) }
 {
     if is_true(a.get()) {
-        return gives(alloc, 21, b);
+        return gives(21, b);
     }
     if is_false(a.get()) {
         return gives_constant(alloc, 22, true);
@@ -337,12 +211,12 @@ pub fn at_imp(alloc: Global, a: &Boxed<Form>, b: &Boxed<Form>) -> Mem<Option<Rew
 }
 
 /// The rows for A -> B where B is an implication or a negation.
-fn imp_further(alloc: Global, a: &Boxed<Form>, b: &Boxed<Form>) -> Mem<Option<Rewritten>>
-    ensures { IfOk result (λ r. r ≡ first_of (option_map (by_row 26) (implies_implication (Imp a.now b.now))) (option_map (by_row 27) (implies_negation (Imp a.now b.now)))) }
+fn imp_further(alloc: Global, a: Boxed<Form>, b: Boxed<Form>) -> Mem<Stepped>
+    ensures { IfOk result (λ r. r ≡ stepped_by (first_of (option_map (by_row 26) (implies_implication (Imp a b))) (option_map (by_row 27) (implies_negation (Imp a b)))) (Imp a b)) }
 {
     match b.get() {
-        Form::Imp(c, d) => joined(alloc, a, c, d),
-        Form::Not(c) => excluded(alloc, a, c),
+        Form::Imp(_, _) => joined(alloc, a, b),
+        Form::Not(_) => excluded(alloc, a, b),
         Form::True
         | Form::False
         | Form::Equal(_, _)
@@ -353,19 +227,48 @@ fn imp_further(alloc: Global, a: &Boxed<Form>, b: &Boxed<Form>) -> Mem<Option<Re
         | Form::All(_, _)
         | Form::Ex(_, _)
         | Form::All2(_, _)
-        | Form::Ex2(_, _) => Ok(None),
+        | Form::Ex2(_, _) => settled_implication(alloc, a, b),
     }
 }
 
+/// A -> (B -> C) gave A & B -> C.
+fn joined(alloc: Global, a: Boxed<Form>, b: Boxed<Form>) -> Mem<Stepped>
+    ensures { IfOk result (λ r. r ≡ Made (by_row 26 (Imp (And a (parts_of b).condition) (parts_of b).conclusion))) }
+{
+    let parts = implication_parts(alloc, b)?;
+    let Implication {
+        condition,
+        conclusion,
+    } = parts;
+    let both = conjunction(alloc, a, condition)?;
+    gives_implication(alloc, 26, both, conclusion)
+}
+
+/// A -> ~B gave ~(A & B).
+fn excluded(alloc: Global, a: Boxed<Form>, b: Boxed<Form>) -> Mem<Stepped>
+    ensures { IfOk result (λ r. r ≡ Made (by_row 27 (Not (And a (denied_of b))))) }
+{
+    let c = denied(alloc, b)?;
+    let both = conjunction(alloc, a, c)?;
+    gives_negation(alloc, 27, both)
+}
+
+fn settled_implication(alloc: Global, a: Boxed<Form>, b: Boxed<Form>) -> Mem<Stepped>
+    ensures { IfOk result (λ r. r ≡ Settled (Imp a b)) }
+{
+    let form = implication(alloc, a, b)?;
+    Ok(Stepped::Settled(form))
+}
+
 /// The rows for A <-> B.
-pub fn at_iff(alloc: Global, a: &Boxed<Form>, b: &Boxed<Form>) -> Mem<Option<Rewritten>>
-    ensures { IfOk result (λ r. r ≡ step_of (Iff a.now b.now)) }
+pub fn at_iff(alloc: Global, a: Boxed<Form>, b: Boxed<Form>) -> Mem<Stepped>
+    ensures { IfOk result (λ r. r ≡ stepped (Iff a b)) }
 {
     if is_true(a.get()) {
-        return gives(alloc, 28, b);
+        return gives(28, b);
     }
     if is_true(b.get()) {
-        return gives(alloc, 29, a);
+        return gives(29, a);
     }
     if is_false(a.get()) {
         return gives_negation(alloc, 30, b);
@@ -376,54 +279,79 @@ pub fn at_iff(alloc: Global, a: &Boxed<Form>, b: &Boxed<Form>) -> Mem<Option<Rew
     if same(a.get(), b.get()) {
         return gives_constant(alloc, 32, true);
     }
-    Ok(None)
+    let form = equivalence(alloc, a, b)?;
+    Ok(Stepped::Settled(form))
 }
 
 /// The rows for `all x. A`.
-pub fn at_universal(alloc: Global, x: Var, a: &Boxed<Form>) -> Mem<Option<Rewritten>>
-    ensures { IfOk result (λ r. r ≡ step_of (All x a.now)) }
+pub fn at_universal(alloc: Global, x: Var, a: Boxed<Form>) -> Mem<Stepped>
+    ensures { IfOk result (λ r. r ≡ stepped (All x a)) }
 {
     if !is_free(a.get(), x.num) {
-        return gives(alloc, 33, a);
+        return gives(33, a);
     }
-    if let Some(found) = find_in_negation(alloc, x, a.get(), &Passed::Nothing)? {
+    if let Some(found) = denied_solution(alloc, x, a.get())? {
         return with_solution(alloc, 36, x, found);
     }
-    if let Some(found) = find_in_condition(alloc, x, a.get(), &Passed::Nothing)? {
+    if let Some(found) = conditional_solution(alloc, x, a.get())? {
         return with_solution(alloc, 37, x, found);
+    }
+    let form = for_all(alloc, x, a)?;
+    Ok(Stepped::Settled(form))
+}
+
+/// The first conjunct of C in `all y. .. ~C` that says what x is.
+fn denied_solution(alloc: Global, x: Var, form: &Form) -> Mem<Option<Solved>>
+    ensures { IfOk result (λ r. r ≡ below_alls (solved_not x) [] form.now) }
+{
+    if ends_in_negation(form) {
+        return find_in_negation(alloc, x, form, &Passed::Nothing);
+    }
+    Ok(None)
+}
+
+/// The first conjunct of C in `all y. .. C -> D` that says what x is.
+fn conditional_solution(alloc: Global, x: Var, form: &Form) -> Mem<Option<Solved>>
+    ensures { IfOk result (λ r. r ≡ below_alls (solved_imp x) [] form.now) }
+{
+    if ends_in_implication(form) {
+        return find_in_condition(alloc, x, form, &Passed::Nothing);
     }
     Ok(None)
 }
 
 /// The rows for `ex x. A`.
-pub fn at_existential(alloc: Global, x: Var, a: &Boxed<Form>) -> Mem<Option<Rewritten>>
-    ensures { IfOk result (λ r. r ≡ step_of (Ex x a.now)) }
+pub fn at_existential(alloc: Global, x: Var, a: Boxed<Form>) -> Mem<Stepped>
+    ensures { IfOk result (λ r. r ≡ stepped (Ex x a)) }
 {
     if !is_free(a.get(), x.num) {
-        return gives(alloc, 33, a);
+        return gives(33, a);
     }
     if let Some(found) = find(alloc, x, a.get(), &Passed::Nothing)? {
         return with_solution(alloc, 35, x, found);
     }
-    Ok(None)
+    let form = exists(alloc, x, a)?;
+    Ok(Stepped::Settled(form))
 }
 
 /// The row for `all2 P. A`.
-pub fn at_universal_block(alloc: Global, p: &PVar, a: &Boxed<Form>) -> Mem<Option<Rewritten>>
-    ensures { IfOk result (λ r. r ≡ step_of (All2 p.now a.now)) }
+pub fn at_universal_block(alloc: Global, p: PVar, a: Boxed<Form>) -> Mem<Stepped>
+    ensures { IfOk result (λ r. r ≡ stepped (All2 p a)) }
 {
     if !is_free_pred(a.get(), p.num) {
-        return gives(alloc, 34, a);
+        return gives(34, a);
     }
-    Ok(None)
+    let form = for_all_tables(alloc, p, a)?;
+    Ok(Stepped::Settled(form))
 }
 
 /// The row for `ex2 P. A`.
-pub fn at_existential_block(alloc: Global, p: &PVar, a: &Boxed<Form>) -> Mem<Option<Rewritten>>
-    ensures { IfOk result (λ r. r ≡ step_of (Ex2 p.now a.now)) }
+pub fn at_existential_block(alloc: Global, p: PVar, a: Boxed<Form>) -> Mem<Stepped>
+    ensures { IfOk result (λ r. r ≡ stepped (Ex2 p a)) }
 {
     if !is_free_pred(a.get(), p.num) {
-        return gives(alloc, 34, a);
+        return gives(34, a);
     }
-    Ok(None)
+    let form = exists_table(alloc, p, a)?;
+    Ok(Stepped::Settled(form))
 }

@@ -2,9 +2,12 @@
 #![tactic(auto, unfolding(soqe_form::specs::Boxes::boxes))]
 
 ghost use Rattle.std.specs.Prelude.{◌≡◌, IfOk};
-ghost use Rattle.soqe_simp.specs.Simplified.{on_children, root_simplified, simplify as simple};
+ghost use Rattle.soqe_simp.specs.Simplified.{on_children, simplify as simple};
+ghost use Rattle.soqe_simp.specs.Ready.{Children, IsSimple, IsBelow, Ready, is_again as is_again_of, is_below as is_below_of, is_anew as is_anew_of};
 
-use crate::rewriting::step;
+use crate::parts::{Implication, denied, implication_parts};
+use crate::rewriting::Rewritten;
+use crate::stepping::{Stepped, take_step};
 use soqe_form::Form;
 use soqe_form::make::{
     conjunction, constant, disjunction, equivalence, exists, exists_table, for_all, for_all_tables,
@@ -17,8 +20,9 @@ use std::alloc::Global;
 /// The formula made simple: its children first, from left to right; then the first row that applies at the root, and what
 /// it gives made simple. Where no row applies at the root, that is the end.
 ///
-/// What a row gives is made simple from its leaves on, and the rows for unused variables walk the body of each binder: for now
-/// the time is the square of the formula's size and more.
+/// What most rows give is known to be simple, or simple but for a node or two, and is not walked again; its parts are moved.
+/// Quantifiers look for names and equations in their bodies, so that the time can be the square of the formula's size. It
+/// recurses as deep as the formula.
 #[cycle(simplify)]
 pub fn simplify(alloc: Global, form: &Form) -> Mem<Boxed<Form>>
     ensures exact { IfOk result (λ r. r ≡ simple form.now) }
@@ -89,13 +93,87 @@ fn simplify_children(alloc: Global, form: &Form) -> Mem<Boxed<Form>>
     }
 }
 
-/// What the first row that applies at the root gives, made simple; the formula itself where no row applies there.
+/// A formula with simple children made simple: by what the first row that applies at the root gives, or as it is.
 #[cycle(simplify)]
 fn settle(alloc: Global, form: Boxed<Form>) -> Mem<Boxed<Form>>
-    ensures { IfOk result (λ r. r ≡ root_simplified simple form) }
+    requires { Children IsSimple form }
+    ensures { IfOk result (λ r. r ≡ simple form) }
 {
-    match step(alloc, form.get())? {
-        None => Ok(form),
-        Some(made) => simplify(alloc, made.form.get()),
+    match take_step(alloc, form)? {
+        Stepped::Settled(form) => Ok(form),
+        Stepped::Made(made) => settle_made(alloc, made),
     }
+}
+
+/// What a row gave, made simple: most rows give what is simple already, or what has simple parts but for a node or two.
+#[cycle(simplify)]
+fn settle_made(alloc: Global, made: Rewritten) -> Mem<Boxed<Form>>
+    requires { Ready made.row made.form }
+    ensures { IfOk result (λ r. r ≡ simple made.form) }
+{
+    if is_again(made.row) {
+        return settle(alloc, made.form);
+    }
+    if is_below(made.row) {
+        return settle_first(alloc, made.form);
+    }
+    if is_anew(made.row) {
+        return simplify(alloc, made.form.get());
+    }
+    Ok(made.form)
+}
+
+/// ~A or A -> D made simple, where A has simple children and D is simple.
+#[cycle(simplify)]
+fn settle_first(alloc: Global, form: Boxed<Form>) -> Mem<Boxed<Form>>
+    requires { IsBelow form }
+    ensures { IfOk result (λ r. r ≡ simple form) }
+{
+    match form.get() {
+        Form::Not(_) => {
+            let a = denied(alloc, form)?;
+            let a = settle(alloc, a)?;
+            let made = negation(alloc, a)?;
+            settle(alloc, made)
+        }
+        Form::Imp(_, _) => {
+            let parts = implication_parts(alloc, form)?;
+            let Implication {
+                condition,
+                conclusion,
+            } = parts;
+            let a = settle(alloc, condition)?;
+            let made = implication(alloc, a, conclusion)?;
+            settle(alloc, made)
+        }
+        Form::True
+        | Form::False
+        | Form::Equal(_, _)
+        | Form::Atom(_, _)
+        | Form::And(_, _)
+        | Form::Or(_, _)
+        | Form::Iff(_, _)
+        | Form::All(_, _)
+        | Form::Ex(_, _)
+        | Form::All2(_, _)
+        | Form::Ex2(_, _) => simplify(alloc, form.get()),
+    }
+}
+
+fn is_again(row: u8) -> bool
+    ensures { result ≡ is_again_of row }
+{
+    row == 19 || row == 20 || row == 24 || row == 30 || row == 31
+}
+
+fn is_below(row: u8) -> bool
+    ensures { result ≡ is_below_of row }
+{
+    row == 26 || row == 27
+}
+
+fn is_anew(row: u8) -> bool
+    ensures { result ≡ is_anew_of row }
+{
+    row == 35 || row == 36 || row == 37
 }

@@ -1,8 +1,8 @@
 //! Formulas written behind their parts: `d` and `p` are atoms without arguments of the declared and the bound predicate 0;
 //! `0` to `2` are atoms of the declared predicate 0 with that variable; `u`, `v` and `w` are `x0 = x1`, `x1 = x0` and
 //! `x0 = x0`; `t` and `f` are true and false; `~`, `&`, `|`, `>` and `=` join what stands before them; `a` and `b` are `all`
-//! with the variables 0 and 1, `e` is `ex` with the variable 0; `A` and `E` bind the predicate 0.
-use crate::{simplify, step};
+//! with the variables 0 and 1, `e` and `g` are `ex` with them; `A` and `E` bind the predicate 0.
+use crate::{RowTable, row_names, simplify, step};
 use soqe_form::make::{
     conjunction, disjunction, equivalence, exists, exists_table, for_all, for_all_tables,
     implication, negation,
@@ -52,6 +52,7 @@ fn bound(alloc: Global, sign: u8, f: Boxed<Form>) -> Mem<Boxed<Form>> {
         b'a' => for_all(alloc, x(0), f),
         b'b' => for_all(alloc, x(1), f),
         b'e' => exists(alloc, x(0), f),
+        b'g' => exists(alloc, x(1), f),
         b'A' => for_all_tables(alloc, binder(alloc), f),
         b'E' => exists_table(alloc, binder(alloc), f),
         _ => negation(alloc, f),
@@ -109,7 +110,7 @@ fn simplifies(alloc: Global, text: &[u8], wanted: &[u8]) -> Mem<bool> {
 #[test]
 fn applies_rows(rt: HostRuntime) -> Result<(), Fail> {
     let alloc = rt.alloc();
-    let cases: [(&[u8], u8, &[u8]); 44] = [
+    let cases: [(&[u8], u8, &[u8]); 45] = [
         (b"t~", 1, b"f"),
         (b"f~", 2, b"t"),
         (b"d~~", 3, b"d"),
@@ -148,6 +149,7 @@ fn applies_rows(rt: HostRuntime) -> Result<(), Fail> {
         (b"0v&e", 35, b"1t&"),
         (b"u0&~a", 36, b"t1&~"),
         (b"u0>a", 37, b"t1>"),
+        (b"u0&0>a", 37, b"t1&1>"),
         (b"01&", 0, b"t"),
         (b"0e", 0, b"t"),
         (b"pA", 0, b"t"),
@@ -161,10 +163,55 @@ fn applies_rows(rt: HostRuntime) -> Result<(), Fail> {
     Ok(())
 }
 
+// Of several rows that apply the first one counts.
+#[test]
+fn applies_the_first_row(rt: HostRuntime) -> Result<(), Fail> {
+    let alloc = rt.alloc();
+    let cases: [(&[u8], u8, &[u8]); 17] = [
+        (b"tt&", 5, b"t"),
+        (b"tf&", 5, b"f"),
+        (b"ft&", 6, b"f"),
+        (b"ff&", 7, b"f"),
+        (b"d~d~&", 9, b"d~"),
+        (b"tf|", 12, b"t"),
+        (b"ft|", 13, b"t"),
+        (b"ff|", 14, b"f"),
+        (b"d~d~|", 16, b"d~"),
+        (b"d~0~|", 19, b"d0~>"),
+        (b"tf>", 21, b"f"),
+        (b"ff>", 22, b"t"),
+        (b"tf=", 28, b"f"),
+        (b"ft=", 29, b"f"),
+        (b"ff=", 30, b"f~"),
+        (b"0aa", 33, b"0a"),
+        (b"pEE", 34, b"pE"),
+    ];
+    for (text, row, wanted) in cases {
+        assert!(rt; steps(alloc, text, row, wanted)?);
+    }
+    Ok(())
+}
+
+// No row applies at the root: to parts that are alike but not the same, to what stands in a part, or to an equation that does
+// not say what the variable is.
+#[test]
+fn applies_no_row(rt: HostRuntime) -> Result<(), Fail> {
+    let alloc = rt.alloc();
+    let cases: [&[u8]; 24] = [
+        b"t", b"f", b"d", b"u", b"d~", b"01|", b"01>", b"01=", b"d0~&", b"dt~&", b"dd>d>", b"d~0>",
+        b"d~d=", b"0a", b"0ba", b"pE", b"ua", b"we", b"u~e", b"u0|e", b"u0&ge", b"u0&~ba",
+        b"u0>ba", b"0u>a",
+    ];
+    for text in cases {
+        assert!(rt; steps(alloc, text, 0, b"t")?);
+    }
+    Ok(())
+}
+
 #[test]
 fn makes_simple(rt: HostRuntime) -> Result<(), Fail> {
     let alloc = rt.alloc();
-    let cases: [(&[u8], &[u8]); 7] = [
+    let cases: [(&[u8], &[u8]); 22] = [
         (b"d", b"d"),
         (b"t~d|", b"d"),
         (b"d01>>~~", b"d0&1>"),
@@ -172,9 +219,39 @@ fn makes_simple(rt: HostRuntime) -> Result<(), Fail> {
         (b"dd~&0&E", b"f"),
         (b"v0>ba", b"0a"),
         (b"d0>~1~|", b"d0>1&~"),
+        (b"d~d~~|", b"t"),
+        (b"d~f>", b"d"),
+        (b"fd~=", b"d"),
+        (b"dd0>>", b"d0>"),
+        (b"dd~>", b"d~"),
+        (b"d01>~>", b"d01>&~"),
+        (b"td>0>1|A", b"d0>1|"),
+        (b"d0~1~||", b"01&d>"),
+        (b"d012>>>", b"d01&&2>"),
+        (b"ddd>>", b"t"),
+        (b"t~~~", b"f"),
+        (b"u0&1&e", b"1"),
+        (b"u0&~a", b"1~"),
+        (b"dba", b"d"),
+        (b"dtt&&~f=", b"d"),
     ];
     for (text, wanted) in cases {
         assert!(rt; simplifies(alloc, text, wanted)?);
     }
+    Ok(())
+}
+
+#[test]
+fn names_rows(rt: HostRuntime) -> Result<(), Fail> {
+    let table = row_names();
+    assert!(rt; table.name(0) == Some("row1"));
+    assert!(rt; table.name(36) == Some("row37"));
+    assert!(rt; table.name(37).is_none());
+    assert!(rt; table.code("row1") == Some(0));
+    assert!(rt; table.code("row37") == Some(36));
+    assert!(rt; table.code("row38").is_none());
+    assert!(rt; table.code("").is_none());
+    let empty: RowTable<0> = RowTable { names: &[] };
+    assert!(rt; empty.name(0).is_none() && empty.code("row1").is_none());
     Ok(())
 }

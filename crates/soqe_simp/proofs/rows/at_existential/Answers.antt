@@ -5,4 +5,4 @@ use Rattle.soqe_simp.proofs.rows.at_existential.Goals as goal
 
 pub with_solution-requires : goal.with_solution-requires
 with_solution-requires c =
-    solved-sort c.args.x c.args.a.now c.in-Some.found (ap (solved [] c.args.x) (sym c.get-2.ensures) ∙ sym c.in_ok-found.ensures ∙ c.in-Some.is)
+    solved-sort c.args.x c.args.a c.in-Some.found (ap (solved [] c.args.x) (sym c.get-2.ensures) ∙ sym c.in_ok-found.ensures ∙ c.in-Some.is)

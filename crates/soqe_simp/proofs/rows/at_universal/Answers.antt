@@ -5,10 +5,10 @@ use Rattle.soqe_simp.proofs.rows.at_universal.Goals as goal
 
 pub with_solution-requires : goal.with_solution-requires
 with_solution-requires c =
-    solved_not-sort c.args.x c.args.a.now c.in-Some.found
+    solved_not-sort c.args.x c.args.a c.in-Some.found
     (ap (below_alls (solved_not c.args.x) []) (sym c.get-2.ensures) ∙ sym c.in_ok-found.ensures ∙ c.in-Some.is)
 
 pub with_solution-requires-in-Some-2 : goal.with_solution-requires-in-Some-2
 with_solution-requires-in-Some-2 c =
-    solved_imp-sort c.args.x c.args.a.now c.in-Some-2.found
+    solved_imp-sort c.args.x c.args.a c.in-Some-2.found
     (ap (below_alls (solved_imp c.args.x) []) (sym c.get-3.ensures) ∙ sym c.in_ok-found-2.ensures ∙ c.in-Some-2.is)
