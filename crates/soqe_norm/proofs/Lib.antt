@@ -12,3 +12,9 @@ pub mod Choosing
 pub mod Quantifieds
 pub mod Prenexes
 pub mod PrenexNames
+pub mod Folded
+pub mod CaseLists
+pub mod CaseNames
+pub mod CaseTruth
+pub mod CaseSorts
+pub mod CaseSplits

@@ -20,11 +20,11 @@ use Rattle.soqe_norm.proofs.Prenexes.{Closed, closed-under, Sides, sides}
 -- ---- sorts
 
 -- the sorting below quantifiers
-abbrev below : Sorting → List Quantifier → Sorting
+abbrev pub below : Sorting → List Quantifier → Sorting
 below e [] = e
 below e (q ∷ qs) = below (over_var e q.variable.num q.variable.sort) qs
 
-below-append : (e : Sorting) (ps qs : List Quantifier) → below e (ps ++ qs) ≡ below (below e ps) qs
+pub below-append : (e : Sorting) (ps qs : List Quantifier) → below e (ps ++ qs) ≡ below (below e ps) qs
 below-append e [] qs = refl
 below-append e (p ∷ ps) qs = below-append (over_var e p.variable.num p.variable.sort) ps qs
 
@@ -32,14 +32,14 @@ either-sorted : (b : Bool) (e : Sorting) (f g : Form) (s : Bool) → sorted e f 
 either-sorted true e f g s h k = h
 either-sorted false e f g s h k = k
 
-sorted-quantify : (e : Sorting) (qs : List Quantifier) (f : Form) → sorted e (quantify qs f) ≡ sorted (below e qs) f
+pub sorted-quantify : (e : Sorting) (qs : List Quantifier) (f : Form) → sorted e (quantify qs f) ≡ sorted (below e qs) f
 unfolding boxes
 sorted-quantify e [] f = refl
 sorted-quantify e (q ∷ qs) f =
     let h = sorted-quantify (over_var e q.variable.num q.variable.sort) qs f in
     either-sorted q.universal e (All q.variable (quantify qs f)) (Ex q.variable (quantify qs f)) (sorted (below e (q ∷ qs)) f) h h
 
-sorted-lacking : (e : Sorting) (qs : List Quantifier) (f : Form) → Lack qs f → sorted (below e qs) f ≡ sorted e f
+pub sorted-lacking : (e : Sorting) (qs : List Quantifier) (f : Form) → Lack qs f → sorted (below e qs) f ≡ sorted e f
 sorted-lacking e [] f l = refl
 sorted-lacking e (q ∷ qs) f l =
     sorted-lacking (over_var e q.variable.num q.variable.sort) qs f (λ n b. l n (or_right (eqb n q.variable.num) (binds n qs) b))
@@ -83,7 +83,7 @@ hidden : (b c a : Bool) → cond b false (cond c false a) ≡ cond (b || c) fals
 hidden true c a = refl
 hidden false c a = refl
 
-free-quantify : (n : ℕ) (qs : List Quantifier) (f : Form) → free n (quantify qs f) ≡ cond (binds n qs) false (free n f)
+pub free-quantify : (n : ℕ) (qs : List Quantifier) (f : Form) → free n (quantify qs f) ≡ cond (binds n qs) false (free n f)
 unfolding boxes
 free-quantify n [] f = refl
 free-quantify n (q ∷ qs) f =

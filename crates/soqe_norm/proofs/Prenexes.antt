@@ -19,15 +19,15 @@ use Rattle.soqe_norm.proofs.Quantifieds.{NoneEmpty, Keeps, and-keeps, or-keeps, 
 use Rattle.soqe_norm.proofs.Aparts.{Unlike, truth-apart, is_nnf-apart, has_blocks-apart, unlike-apart, bound-free-apart}
 
 -- two lists without a number twice in them, one after the other
-record Parted (xs ys : List ℕ) : Type 0 where
+pub record Parted (xs ys : List ℕ) : Type 0 where
   pub first : Unlike xs
   pub second : Unlike ys
   pub cross : (n : ℕ) → member n xs ≡ true → member n ys ≡ false
 
-member-append : (n : ℕ) (xs ys : List ℕ) → member n (xs ++ ys) ≡ (member n xs || member n ys)
+pub member-append : (n : ℕ) (xs ys : List ℕ) → member n (xs ++ ys) ≡ (member n xs || member n ys)
 member-append n xs ys = list_any-append (λ m. eqb n m) xs ys
 
-parted : (xs ys : List ℕ) → Unlike (xs ++ ys) → Parted xs ys
+pub parted : (xs ys : List ℕ) → Unlike (xs ++ ys) → Parted xs ys
 parted [] ys u = record { first = tt; second = u; cross = λ n h. let h : false ≡ true = h in cc }
 parted (x ∷ xs) ys u =
     let r = parted xs ys u.1 in
@@ -41,13 +41,13 @@ parted (x ∷ xs) ys u =
 binds-append : (n : ℕ) (ps qs : List Quantifier) → binds n (ps ++ qs) ≡ (binds n ps || binds n qs)
 binds-append n ps qs = list_any-append (λ q. eqb n q.variable.num) ps qs
 
-or_more : (a b c d : Bool) → (a ≡ true → c ≡ true) → (b ≡ true → d ≡ true) → (a || b) ≡ true → (c || d) ≡ true
+pub or_more : (a b c d : Bool) → (a ≡ true → c ≡ true) → (b ≡ true → d ≡ true) → (a || b) ≡ true → (c || d) ≡ true
 or_more a b c d f g h = ⊎_elim (λ e. or_left c d (f e)) (λ e. or_right c d (g e)) (or_cases a b h)
 
-two-bind : (n : ℕ) (ps qs : List Quantifier) (xs ys : List ℕ) → (binds n ps ≡ true → member n xs ≡ true) → (binds n qs ≡ true → member n ys ≡ true) → binds n (ps ++ qs) ≡ true → member n (xs ++ ys) ≡ true
+pub two-bind : (n : ℕ) (ps qs : List Quantifier) (xs ys : List ℕ) → (binds n ps ≡ true → member n xs ≡ true) → (binds n qs ≡ true → member n ys ≡ true) → binds n (ps ++ qs) ≡ true → member n (xs ++ ys) ≡ true
 two-bind n ps qs xs ys f g h = member-append n xs ys ∙ or_more (binds n ps) (binds n qs) (member n xs) (member n ys) f g (sym (binds-append n ps qs) ∙ h)
 
-none : {A : Type 0} → false ≡ true → A
+pub none : {A : Type 0} → false ≡ true → A
 none h = cc
 
 -- a quantifier of the prefix is a binder
@@ -66,12 +66,12 @@ binds-prefix n (Ex' x _ (one f end)) h = or_more (eqb n x.num) (binds n (prefix 
 binds-prefix n (All2' p _ (one f end)) h = none h
 binds-prefix n (Ex2' p _ (one f end)) h = none h
 
-two-free : (n : ℕ) (xs ys : List ℕ) (a b c d : Bool) → member n (xs ++ ys) ≡ false → (member n xs ≡ false → a ≡ true → c ≡ true) → (member n ys ≡ false → b ≡ true → d ≡ true) → (a || b) ≡ true → (c || d) ≡ true
+pub two-free : (n : ℕ) (xs ys : List ℕ) (a b c d : Bool) → member n (xs ++ ys) ≡ false → (member n xs ≡ false → a ≡ true → c ≡ true) → (member n ys ≡ false → b ≡ true → d ≡ true) → (a || b) ≡ true → (c || d) ≡ true
 two-free n xs ys a b c d m f g h =
     let e : (member n xs || member n ys) ≡ false = sym (member-append n xs ys) ∙ m in
     or_more a b c d (f (or_none_first (member n xs) (member n ys) e)) (g (or_none_second (member n xs) (member n ys) e)) h
 
-one-free : (n x : ℕ) (b c m : Bool) → (eqb n x || m) ≡ false → (m ≡ false → b ≡ true → c ≡ true) → b ≡ true → cond (eqb n x) false c ≡ true
+pub one-free : (n x : ℕ) (b c m : Bool) → (eqb n x || m) ≡ false → (m ≡ false → b ≡ true → c ≡ true) → b ≡ true → cond (eqb n x) false c ≡ true
 one-free n x b c m o f h = ap (λ d. cond d false c) (or_none_first (eqb n x) m o) ∙ f (or_none_second (eqb n x) m o) h
 
 -- a variable that is free in the matrix and no binder's is free in the formula
@@ -95,10 +95,10 @@ free-matrix n (Ex2' p _ (one f end)) m h = h
 abbrev pub Closed : List ℕ → (ℕ → Bool) → Type 0
 Closed bs p = (n : ℕ) → member n bs ≡ true → p n ≡ false
 
-closed-first : (xs ys : List ℕ) (p q : ℕ → Bool) → Closed (xs ++ ys) (λ n. p n || q n) → Closed xs (λ n. p n || q n)
+pub closed-first : (xs ys : List ℕ) (p q : ℕ → Bool) → Closed (xs ++ ys) (λ n. p n || q n) → Closed xs (λ n. p n || q n)
 closed-first xs ys p q c n m = c n (member-append n xs ys ∙ or_left (member n xs) (member n ys) m)
 
-closed-second : (xs ys : List ℕ) (p q : ℕ → Bool) → Closed (xs ++ ys) (λ n. p n || q n) → Closed ys (λ n. p n || q n)
+pub closed-second : (xs ys : List ℕ) (p q : ℕ → Bool) → Closed (xs ++ ys) (λ n. p n || q n) → Closed ys (λ n. p n || q n)
 closed-second xs ys p q c n m = c n (member-append n xs ys ∙ or_right (member n xs) (member n ys) m)
 
 pub closed-under : (x : ℕ) (xs : List ℕ) (p : ℕ → Bool) → Unlike (x ∷ xs) → Closed (x ∷ xs) (λ n. cond (eqb n x) false (p n)) → Closed xs p

@@ -9,3 +9,8 @@ pub mod Apart
 pub mod ApartLaws
 pub mod Prenex
 pub mod PrenexLaws
+pub mod Folds
+pub mod Cases
+pub mod CasesLaws
+pub mod SplitBoxes
+pub mod Splits

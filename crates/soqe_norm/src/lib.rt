@@ -5,13 +5,18 @@
 //!
 //! Three forms of a formula, each with its exact result and with laws on what it keeps: `specs/Nnf.antt`, negations at
 //! atoms alone; `specs/Apart.antt`, distinct bound variables; `specs/Prenex.antt`, quantifiers of variables in front.
+//!
+//! `specs/Cases.antt` says into which cases a formula falls for a predicate: some case holds exactly where the formula does.
 #![tactic(auto)]
 
 pub mod apart;
+pub mod case_list;
+pub mod cases;
 pub mod laws;
 pub mod nnf;
 pub mod prenex;
 pub mod signs;
+mod splits;
 #[cfg(test)]
 mod tests;
 pub mod valued;

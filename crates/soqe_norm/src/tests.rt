@@ -2,6 +2,8 @@
 //! predicate 0, and `0` to `3` are atoms of the declared predicate 0 with that variable; `t` and `f` are true and false;
 //! `~`, `&`, `|`, `>` and `=` join what stands before them; `a`, `b`, `c` and `g` are `all` with the variables 0 to 3,
 //! and `e`, `x`, `y` and `z` are `ex`; `A` and `E` bind the predicate 0, `B` binds the predicate 1.
+mod cases;
+
 use crate::apart::apart;
 use crate::nnf::nnf;
 use crate::prenex::prenex;
