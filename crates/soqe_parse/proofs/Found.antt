@@ -1,4 +1,5 @@
--- From the machine's run over the tokens of a text to the shape of the text, or to the place of its fault.
+-- From the machine's run over the tokens of a text to the shape of the text, or to the place of its fault (a formula's:
+-- FormFound).
 use Rattle.std.proofs.Common.{◌≡◌, ℕ, ◌<◌, List, [], length, take, get_or, map, Option, Some, None, Result, Ok, Err, sym, ap, subst, ◌∙◌}
 use Rattle.std.specs.Prelude.{IfOk}
 use Rattle.std.proofs.lemmas.Option.{slice_get-get_or}

@@ -9,3 +9,6 @@ pub mod Outcomes
 pub mod Stacks
 pub mod Staged
 pub mod Found
+pub mod FormPlaces
+pub mod FormOutcomes
+pub mod FormFound

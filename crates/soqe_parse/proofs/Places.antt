@@ -73,7 +73,7 @@ one-token bytes m n ts v dead w dead' =
       ]
     ]
 
-same-start : (ts : List Token) (m n : ℕ) (t u : Token) → m ≡ n → slice_get ts m ≡ Some t → slice_get ts n ≡ Some u → t.start ≡ u.start
+pub same-start : (ts : List Token) (m n : ℕ) (t u : Token) → m ≡ n → slice_get ts m ≡ Some t → slice_get ts n ≡ Some u → t.start ≡ u.start
 same-start ts m n t u e g h =
     let same : t ≡ u = cc (ap (slice_get ts) e) in
     ap (λ (x : Token). x.start) same

@@ -6,3 +6,4 @@ pub mod Laws
 pub mod Stack
 pub mod Stages
 pub mod Reading
+pub mod Formulas

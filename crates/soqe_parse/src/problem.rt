@@ -95,7 +95,7 @@ fn went_on(
 
 /// The formula that was read, where it is whole.
 #[tactic(auto, using(crate::proofs::Stacks::calls_push, crate::proofs::Stacks::calls_none))]
-fn ended(alloc: Global, stack: Vec<Frame>, mode: Mode) -> Result<Shape, StepError>
+pub(crate) fn ended(alloc: Global, stack: Vec<Frame>, mode: Mode) -> Result<Shape, StepError>
     ensures { Ends result (formula.finish (state_of stack.items mode)) }
 {
     match mode {
