@@ -4,6 +4,8 @@
 //! Read `specs/Truth.antt` first: the truth of a formula in a world. `specs/Sorted.antt` says which formulas are well
 //! sorted, `specs/Alike.antt` when two have one truth, `specs/Same.antt` when they are equal up to the numbers of what is
 //! bound in them, `specs/Places.antt` where a block stands, and `specs/Pure.antt` what a result may contain.
+//! `specs/FreePreds.antt` says where a predicate is free, and `specs/PredRenaming.antt` what a bound predicate under another
+//! number is.
 #![tactic(auto)]
 
 mod blocks;
@@ -38,7 +40,7 @@ pub use free_variables::free_vars;
 pub use lists::{Forms, PVars};
 pub use marks::Marks;
 pub use names::{is_free, mark_form, mark_term};
-pub use pred_renaming::{rename_pred, rename_pred_boxed};
+pub use pred_renaming::rename_pred;
 pub use put::put_in;
 pub use renaming::{rename, rename_boxed};
 pub use replace::replace_at;

@@ -83,7 +83,7 @@ pub fn rename_pred(alloc: Global, form: &Form, m: u64, n: u64) -> Mem<Form>
 
 /// The boxed form of `rename_pred`.
 #[cycle(rename_pred)]
-pub fn rename_pred_boxed(alloc: Global, form: &Boxed<Form>, m: u64, n: u64) -> Mem<Boxed<Form>>
+fn rename_pred_boxed(alloc: Global, form: &Boxed<Form>, m: u64, n: u64) -> Mem<Boxed<Form>>
     ensures { IfOk result (λ r. r ≡ renamed_pred m n form.now) }
 {
     let form = rename_pred(alloc, form.get(), m, n)?;

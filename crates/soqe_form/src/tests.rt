@@ -1,5 +1,6 @@
 //! Copies, first blocks and replaced parts of formulas written by hand.
 mod exchanged;
+mod predicates;
 mod sameness;
 mod tidying;
 mod variables;
