@@ -1,0 +1,119 @@
+-- A value as it is shown. With the parameters in front, each parameter makes a pair with the one that is shown in its place, and
+-- no other free variable of the value has a number that is shown. Below these pairs the value is the same as with the new
+-- parameters, and that is the same as its tidy formula.
+use Rattle.std.proofs.Common.{◌≡◌, ℕ, Bool, true, false, eqb, not, ◌||◌, ◌&&◌, map, List, [], ◌∷◌, refl, sym, ◌∙◌, ap, subst, arith}
+use Rattle.std.proofs.lemmas.Bool.{both_ways, and_from, not-true}
+use Rattle.soqe_term.specs.declared.term.Var.{Var}
+use Rattle.soqe_term.specs.Sorting.{Sorting}
+use Rattle.soqe_term.specs.Unused.{member}
+use Rattle.soqe_term.proofs.Choices.{bool_cases, or_none_first, or_none_second}
+use Rattle.soqe_term.proofs.Worlds.{eqb-self}
+use Rattle.soqe_form.specs.declared.form.Form.{Form}
+use Rattle.soqe_form.specs.Free.{free}
+use Rattle.soqe_form.specs.FreeVars.{is_among}
+use Rattle.soqe_form.specs.Marks.{IsLeastWithout}
+use Rattle.soqe_form.specs.Mentions.{depth}
+use Rattle.soqe_form.specs.Same.{same_in, same}
+use Rattle.soqe_form.specs.Sorted.{sorted}
+use Rattle.soqe_form.specs.Substitution.{sub}
+use Rattle.soqe_form.specs.Tidy.{tidy}
+use Rattle.soqe_form.proofs.SameOrder.{same-turned}
+use Rattle.soqe_form.proofs.SameSorted.{sorted-same}
+use Rattle.soqe_form.proofs.Tidied.{same-tidied}
+use Rattle.soqe_form.proofs.TidyNumbers.{least-one}
+use Rattle.soqe_norm.specs.Apart.{IsLeast}
+use Rattle.soqe_ack.specs.Acked.{AreParameters}
+use Rattle.soqe_ack.specs.AckedLaws.{below}
+use Rattle.soqe_ack.specs.GuardLaws.{AreDistinct}
+use Rattle.soqe_ack.specs.Tries.{by_vars, for_all, IsShown}
+use Rattle.soqe_ack.proofs.ParameterNumbers.{parameters-unused, parameters-distinct}
+use Rattle.soqe_ack.proofs.SameFronts.{Pairs, rights, twins, twins-diagonal, same_in-turned, fit-last, same_in-chained}
+use Rattle.soqe_ack.proofs.PairedVars.{HaveSameSorts, paired, same-by_vars, same-for_all, sorted-for_all}
+
+-- ---- the parameters that are shown
+
+-- each has the sort of the parameter in whose place it is shown
+same-sorts : (used : ℕ → Bool) (xs ys : List Var) → AreParameters used (map (λ x. x.sort) xs) ys → HaveSameSorts xs ys
+same-sorts used [] [] h = tt
+same-sorts used [] (y ∷ ys) h = h
+same-sorts used (x ∷ xs) [] h = h
+same-sorts used (x ∷ xs) (y ∷ ys) h = (sym h.0, same-sorts (λ n. eqb n y.num || used n) xs ys h.2)
+
+-- a number is to be kept out, or is that of a free variable of the value that is no parameter
+abbrev is_out : List ℕ → List Var → Form → ℕ → Bool
+is_out keep params value n = member n keep || (free n value && not (is_among params n))
+
+-- a free variable of the value that is no parameter has no number that is shown
+not-shown : (keep : List ℕ) (params ys : List Var) (value : Form) (sorts : List ℕ) → AreParameters (is_out keep params value) sorts ys
+    → (n : ℕ) → free n value ≡ true → is_among params n ≡ false → is_among ys n ≡ false
+not-shown keep params ys value sorts h n o p =
+    bool_cases (λ b. b ≡ false) (is_among ys n)
+    (λ q. absurd (both_ways (free n value && not (is_among params n))
+    (or_none_second (member n keep) (free n value && not (is_among params n)) (parameters-unused (is_out keep params value) sorts ys h n q))
+    (and_from (free n value) (not (is_among params n)) o (ap not p))))
+    (λ q. refl)
+
+same-below : (keep : List ℕ) (params ys : List Var) (value : Form) → AreDistinct params → AreParameters (is_out keep params value) (map (λ x. x.sort) params) ys
+    → (e : Sorting) → sorted (below e params) value ≡ true → same_in (paired [] params ys) [] value (sub (depth value) (by_vars params ys) value) ≡ true
+same-below keep params ys value d h e o =
+    same-by_vars (depth value) params ys value (omega arith) (same-sorts (is_out keep params value) params ys h) d
+    (parameters-distinct (is_out keep params value) (map (λ x. x.sort) params) ys h) (not-shown keep params ys value (map (λ x. x.sort) params) h) e o
+
+pub shown-same : (keep : List ℕ) (params : List Var) (value : Form) (ys : List Var) (w : Form) → AreDistinct params → IsShown keep params value ys w
+    → (e : Sorting) → sorted (below e params) value ≡ true → same (for_all ys w) (for_all params value) ≡ true
+shown-same keep params value ys w d h e o =
+    let vs : Pairs = paired [] params ys in
+    let f : Form = sub (depth value) (by_vars params ys) value in
+    let tidier : same_in (twins (rights vs)) [] f w ≡ true =
+    same_in-turned (rights vs) [] f w ∙ ap (λ w. same_in (twins (rights vs)) [] w f) h.shown
+    ∙ same-tidied (twins (rights vs)) [] keep (λ n. n) f (λ m o. twins-diagonal (rights vs) m) eqb-self in
+    let inner : same_in vs [] value w ≡ true =
+    same_in-chained vs (twins (rights vs)) vs [] [] [] value f w (fit-last vs) (fit-last []) (same-below keep params ys value d h.numbers e o) tidier in
+    same-turned (for_all ys w) (for_all params value)
+    ∙ same-for_all [] [] params ys value w (same-sorts (is_out keep params value) params ys h.numbers) inner
+
+pub shown-distinct : (keep : List ℕ) (params : List Var) (value : Form) (ys : List Var) (w : Form) → IsShown keep params value ys w
+    → AreDistinct ys × ((n : ℕ) → is_among ys n ≡ true → member n keep ≡ false)
+shown-distinct keep params value ys w h = (
+  parameters-distinct (is_out keep params value) (map (λ x. x.sort) params) ys h.numbers,
+  λ n p. or_none_first (member n keep) (free n value && not (is_among params n)) (parameters-unused (is_out keep params value) (map (λ x. x.sort) params) ys h.numbers n p),
+)
+
+pub shown-sorted : (keep : List ℕ) (params : List Var) (value : Form) (ys : List Var) (w : Form) → AreDistinct params → IsShown keep params value ys w
+    → (e : Sorting) → sorted (below e params) value ≡ true → sorted (below e ys) w ≡ true
+shown-sorted keep params value ys w d h e o =
+    sym (sorted-for_all e ys w)
+    ∙ sorted-same (for_all ys w) (for_all params value) (shown-same keep params value ys w d h e o) e
+    ∙ sorted-for_all e params value
+    ∙ o
+
+-- ---- one way
+
+-- the least number that is not used
+least-without : (used : ℕ → Bool) (n : ℕ) → IsLeast (λ n. not (used n)) n → IsLeastWithout used n
+least-without used n h = record {
+  fails = not-true (used n) h.passes;
+  below = λ k l. not-fails (used k) (h.least k l);
+}
+  where
+    not-fails : (b : Bool) → not b ≡ false → b ≡ true
+    not-fails true h = refl
+    not-fails false h = sym h
+
+-- parameters are determined by their sorts and the numbers that are used
+pub one-parameters : (used : ℕ → Bool) (sorts : List ℕ) (xs ys : List Var) → AreParameters used sorts xs → AreParameters used sorts ys → xs ≡ ys
+one-parameters used [] [] [] h k = refl
+one-parameters used [] [] (y ∷ ys) h k = absurd k
+one-parameters used [] (x ∷ xs) ys h k = absurd h
+one-parameters used (s ∷ sorts) [] ys h k = absurd h
+one-parameters used (s ∷ sorts) (x ∷ xs) [] h k = absurd k
+one-parameters used (s ∷ sorts) (x ∷ xs) (y ∷ ys) h k =
+    let number : y.num ≡ x.num = least-one used y.num x.num (least-without used y.num k.1) (least-without used x.num h.1) in
+    let more : xs ≡ ys =
+    one-parameters (λ n. eqb n x.num || used n) sorts xs ys h.2 (subst (λ m. AreParameters (λ n. eqb n m || used n) sorts ys) number k.2) in
+    λ i. record { num = sym number i; sort = (h.0 ∙ sym k.0) i } ∷ more i
+
+pub one-shown : (keep : List ℕ) (params : List Var) (value : Form) (xs ys : List Var) (f g : Form) → IsShown keep params value xs f → IsShown keep params value ys g → (xs ≡ ys) × (f ≡ g)
+one-shown keep params value xs ys f g h k =
+    let numbers : xs ≡ ys = one-parameters (is_out keep params value) (map (λ x. x.sort) params) xs ys h.numbers k.numbers in
+    (numbers, h.shown ∙ ap (λ zs. tidy keep (sub (depth value) (by_vars params zs) value)) numbers ∙ sym k.shown)

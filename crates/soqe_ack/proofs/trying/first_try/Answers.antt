@@ -1,0 +1,7 @@
+use Rattle.soqe_ack.proofs.Applies.{tried-first}
+use Rattle.soqe_ack.proofs.trying.first_try.Goals as goal
+
+pub returns-in-Some : goal.returns-in-Some
+returns-in-Some c = record {
+  exact = tried-first c.args.pred.now c.args.keep.now c.args.case.now.vars c.args.case.now.conj c.in_ok-acked.field-0 c.in-Some.acked c.in_ok-acked.ensures.exact c.in-Some.is;
+}

@@ -1,0 +1,12 @@
+pub mod Signs
+pub mod Guards
+pub mod Parts
+pub mod GuardEnds
+pub mod GuardLaws
+pub mod Joins
+pub mod Acked
+pub mod AckedLaws
+pub mod Divides
+pub mod Tries
+pub mod ShownLaws
+pub mod Applied
