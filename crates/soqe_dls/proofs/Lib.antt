@@ -1,0 +1,6 @@
+mod FoldedForms
+mod NewParameters
+mod Running
+mod RunTruth
+mod RunUnique
+mod RunLost
