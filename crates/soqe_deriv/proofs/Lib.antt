@@ -1,2 +1,5 @@
+pub mod Options
 pub mod Meanings
+pub mod Disjunctions
+pub mod Cased
 pub mod Sound

@@ -3,10 +3,11 @@
 -- Walk along the rows and keep two facts. The formula that stands is well sorted, and has the goal's truth in every world
 -- that fits the declarations. And where a block is open, it is the first one of the formula that stands, and what its lines
 -- have come to has the truth of the quantified formula in every world that fits the names in scope at its place. The row
--- `replace` gives the second fact, by the law of signs; the row `close` takes it back to the first, since a part replaced by
--- one of equal truth in its scope keeps the truth of the whole. Both facts are kept where a formula is simplified, and where
--- a line shows one with other numbers for what is bound in it. At a result no quantified predicate is left, and a
--- well-sorted formula uses known names alone, so it is pure. A structure that fits gives a world that fits.
+-- `replace` gives the second fact, by the law of signs; a block by cases keeps it in a form of its own, which Cased tells. The
+-- row `close` takes it back to the first, since a part replaced by one of equal truth in its scope keeps the truth of the
+-- whole. Both facts are kept where a formula is simplified, and where a line shows one with other numbers for what is bound in
+-- it. At a result no quantified predicate is left, and a well-sorted formula uses known names alone, so it is pure. A structure
+-- that fits gives a world that fits.
 use Rattle.std.proofs.Common.{◌≡◌, Bool, true, false, List, [], ◌∷◌, ◌++◌, Option, Some, None, refl, sym, ◌∙◌, ap, subst}
 use Rattle.std.specs.Option.{is_some}
 use Rattle.soqe_term.specs.Sorting.{Sorting}
@@ -29,20 +30,13 @@ use Rattle.soqe_deriv.specs.declared.document.Line.{Line}
 use Rattle.soqe_deriv.specs.declared.document.Document.{Document}
 use Rattle.soqe_deriv.specs.Text.{declared_of}
 use Rattle.soqe_text.specs.Sorted.{IsSorted}
-use Rattle.soqe_deriv.specs.Valid.{Row, First, Posed, Further, Phase, Fresh, Running, Answered, Halted, Accepted, Ended, Opened, State, start_state, goal_of, kept, simplified, opened, outcome, Step, first, posed, start, block, replace, close, result, mixed, end_answered, end_halted, Reach, none, more, further}
+use Rattle.soqe_deriv.specs.Valid.{Row, First, Posed, Further, Phase, Fresh, Running, Answered, Halted, Accepted, Ended, Work, Sign, Dls, Opened, State, start_state, goal_of, kept, simplified, opened, comes_to, Step, first, posed, start, block, replace, dls, close, result, mixed, not_reached, end_answered, end_halted, Reach, none, more, further}
 use Rattle.soqe_deriv.specs.Sound.{IsSound}
+use Rattle.soqe_deriv.proofs.Options.{some-is, none-some, one_of}
 use Rattle.soqe_deriv.proofs.Meanings.{Means, means-same, means-simplified}
+use Rattle.soqe_deriv.proofs.Cased.{IsCased, cased-comes, keeps-cased}
 use Rattle.soqe_form.proofs.Pures.{first-order, free-known}
 use Rattle.soqe_form.proofs.SamePures.{blocks-same}
-
-some-is : {A : Type 0} {a b : A} → Some a ≡ Some b → a ≡ b
-some-is e = cc
-
-none-some : {A B : Type 0} {o : Option A} {a : A} → o ≡ None → o ≡ Some a → B
-none-some {o = o} {a = a} n e = let h : None ≡ Some a = sym n ∙ e in cc
-
-one_of : {A : Type 0} {o : Option A} {a b : A} → o ≡ Some a → o ≡ Some b → a ≡ b
-one_of e h = some-is (sym e ∙ h)
 
 -- what a problem's declarations make known
 abbrev known : Problem → Sorting
@@ -62,6 +56,15 @@ record Answers (o : Option Problem) (f : Form) : Type 0 where
 abbrev Comes : Sorting → Block → Form → Type 0
 Comes e b r = Means e r (quantified b)
 
+-- the same of what is left of an open block
+abbrev Works : Sorting → Block → Work → Type 0
+Works e b (Sign f) = (r : Form) → f ≡ Some r → Comes e b r
+Works e b (Dls w) = IsCased e b w
+
+works-come : (e : Sorting) (b : Block) (k : Work) → Works e b k → (r : Form) → comes_to b.exists k ≡ Some r → Comes e b r
+works-come e b (Sign f) h = h
+works-come e b (Dls w) h = cased-comes e b w h
+
 -- the open block is the first one of the formula that stands
 record IsOpen (q : Option Problem) (f : Option Form) (o : Opened) : Type 0 where
   problem : Problem
@@ -69,7 +72,7 @@ record IsOpen (q : Option Problem) (f : Option Form) (o : Opened) : Type 0 where
   formula : Form
   is : f ≡ Some formula
   first : first_block formula ≡ Some o.block
-  work : (r : Form) → outcome o.work ≡ Some r → Comes (scope_at o.block.place formula (known problem)) o.block r
+  work : Works (scope_at o.block.place formula (known problem)) o.block o.work
 
 -- a result was written
 abbrev IsDone : Phase → Type 0
@@ -92,11 +95,13 @@ goal-sorted (problem.Elim ds goal) h = h
 not-done : {A : Type 0} (s : State) → s.phase ≡ Running → IsDone s.phase → A
 not-done s h d = absurd (subst IsDone h d)
 
-unworked : (m : Method) (b : Block) (r : Form) (A : Type 0) → outcome (opened m b).work ≡ Some r → A
-unworked method.Sign b r A e = let n : None ≡ Some r = e in cc
+unworked : (e : Sorting) (m : Method) (b : Block) → Works e (opened m b).block (opened m b).work
+unworked e method.Sign b = λ r q. none-some refl q
+unworked e method.Dls b = record { unsplit = λ n. record { present = refl; due = refl; given = refl }; splits = λ f q. none-some refl q }
 
 its-block : (m : Method) (b : Block) → (opened m b).block ≡ b
 its-block method.Sign b = refl
+its-block method.Dls b = refl
 
 -- a first block stands at its place
 stands : (f : Form) (b : Block) → first_block f ≡ Some b → part_at b.place f ≡ Some (quantified b)
@@ -108,9 +113,12 @@ put-holds p f b r e h c = record {
   alike = λ w k. truth-put_at b.place f (quantified b) r (stands f b e) (known p) c.alike w k ∙ h.alike w k;
 }
 
+block-sorted : (p : Problem) (f : Form) (b : Block) → first_block f ≡ Some b → Holds p f → sorted (scope_at b.place f (known p)) (quantified b) ≡ true
+block-sorted p f b e h = sorted-part b.place f (quantified b) (stands f b e) (known p) h.well
+
 value-comes : (p : Problem) (f : Form) (b : Block) (v : Bool) → first_block f ≡ Some b → Holds p f → value_for b ≡ Some v → Comes (scope_at b.place f (known p)) b (valued b.pred.num v b.body)
 value-comes p f b v e h q =
-    let in_scope : sorted (scope_at b.place f (known p)) (quantified b) ≡ true = sorted-part b.place f (quantified b) (stands f b e) (known p) h.well in
+    let in_scope = block-sorted p f b e h in
     record { well = stays-sorted (scope_at b.place f (known p)) b v in_scope; alike = replaces-block (scope_at b.place f (known p)) b v q in_scope }
 
 no-blocks : (f : Form) → first_block f ≡ None → has_blocks f ≡ false
@@ -146,7 +154,7 @@ module _ (s : State) (good : Good s) where
       formula = f;
       is = q;
       first = k ∙ ap Some (sym (its-block m b));
-      work = λ r u. unworked m b r (Comes (scope_at (opened m b).block.place f (known a.problem)) (opened m b).block r) u;
+      work = unworked (scope_at (opened m b).block.place f (known a.problem)) m b;
     });
     done = λ d. not-done s h d;
   }
@@ -167,6 +175,22 @@ module _ (s : State) (good : Good s) where
         });
     done = λ d. not-done s h d;
   }
+  keeps (dls {b = b} {w = w} {v = v} h j q k) = record {
+    posed_well = good.posed_well;
+    formula = good.formula;
+    block = λ o u. subst (IsOpen s.problem s.formula) (some-is u) (let a = good.block (record { block = b; work = Dls w }) q in
+        let g = good.formula a.formula a.is in
+        record {
+          problem = a.problem;
+          posed_is = a.posed_is;
+          formula = a.formula;
+          is = a.is;
+          first = a.first;
+          work = keeps-cased (scope_at b.place a.formula (known a.problem)) b
+              (block-sorted a.problem a.formula b a.first (subst (λ p. Holds p a.formula) (one_of g.is a.posed_is) g.holds)) a.work k;
+        });
+    done = λ d. not-done s h d;
+  }
   keeps (close {f = f} {g = g} {r = r} {p = p} {o = o} h j q k u e) =
       let a = good.block o k in
       let c = good.formula a.formula a.is in
@@ -174,7 +198,7 @@ module _ (s : State) (good : Good s) where
       let posed_is : a.problem ≡ p = one_of a.posed_is j in
       let holds : Holds p a.formula = subst (λ p. Holds p a.formula) (one_of c.is j) c.holds in
       let scope = scope_at o.block.place a.formula (known p) in
-      let came : Comes scope o.block r = subst (λ p. Comes (scope_at o.block.place a.formula (known p)) o.block r) posed_is (a.work r u) in
+      let came : Comes scope o.block r = subst (λ p. Comes (scope_at o.block.place a.formula (known p)) o.block r) posed_is (works-come (scope_at o.block.place a.formula (known a.problem)) o.block o.work a.work r u) in
       let comes : Comes scope o.block f =
       means-same scope f (simplified (kept p) r) (quantified o.block) e (means-simplified scope (kept p) r (quantified o.block) came) in
       let put : Holds p (put_at o.block.place f g) = subst (λ x. Holds p (put_at o.block.place f x)) stood (put-holds p a.formula o.block f a.first holds comes) in
@@ -199,6 +223,7 @@ module _ (s : State) (good : Good s) where
     done = λ d x u. subst (λ y. has_blocks y ≡ false) (some-is u) (blocks-same f g e ∙ no-blocks g k);
   }
   keeps (mixed h q i j) = record { posed_well = good.posed_well; formula = good.formula; block = good.block; done = λ d. absurd d }
+  keeps (not_reached h q p n i u v) = record { posed_well = good.posed_well; formula = good.formula; block = good.block; done = λ d. absurd d }
   keeps (end_answered h) = record {
     posed_well = good.posed_well;
     formula = good.formula;
@@ -242,9 +267,11 @@ step-posed (posed h n k) = refl
 step-posed (start h q n k) = refl
 step-posed (block h q n k) = refl
 step-posed (replace h q k e) = refl
+step-posed (dls h j q k) = refl
 step-posed (close h j q k u e) = refl
 step-posed (result h q n k e) = refl
 step-posed (mixed h q i j) = refl
+step-posed (not_reached h q p n i u v) = refl
 step-posed (end_answered h) = refl
 step-posed (end_halted h) = refl
 

@@ -1,3 +1,4 @@
+pub mod Cased
 pub mod Valid
 pub mod Text
 pub mod Sound

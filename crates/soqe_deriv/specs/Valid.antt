@@ -1,5 +1,5 @@
 -- When a line of a document is valid, and what stands then.
-use Rattle.std.specs.Prelude.{◌≡◌, ℕ, Bool, true, List, [], ◌∷◌, ◌++◌, map, Option, Some, None}
+use Rattle.std.specs.Prelude.{◌≡◌, ℕ, Bool, true, false, List, [], ◌∷◌, ◌++◌, map, Option, Some, None}
 use Rattle.soqe_term.specs.Declarations.{free_vars_of}
 use Rattle.soqe_form.specs.declared.form.Form.{Form}
 use Rattle.soqe_form.specs.declared.form.Pred.TheVariants.{Bound}
@@ -9,6 +9,7 @@ use Rattle.soqe_form.specs.Same.{same}
 use Rattle.soqe_form.specs.Tidy.{tidy}
 use Rattle.soqe_simp.specs.Simplified.{simplify}
 use Rattle.soqe_norm.specs.Valued.{valued, value_for, first_pos, first_neg}
+use Rattle.soqe_ack.specs.Acked.{IsStuck}
 use Rattle.soqe_text.specs.Sorted.{IsSorted}
 use Rattle.soqe_text.specs.declared.problem.Problem.{Problem}
 use Rattle.soqe_text.specs.declared.problem.Problem.TheVariants as problem
@@ -18,6 +19,7 @@ use Rattle.soqe_deriv.specs.declared.document.Stop.TheVariants as stop
 use Rattle.soqe_deriv.specs.declared.document.Line.{Line}
 use Rattle.soqe_deriv.specs.declared.document.Line.TheVariants as line
 use Rattle.soqe_deriv.specs.declared.document.Document.{Document}
+use Rattle.soqe_deriv.specs.Cased.{Present, Cases, no_cases, cases_come_to, CaseStep}
 
 -- a document's rows: its first line, its problem, and its other lines
 pub data Row : Type 0 where
@@ -38,6 +40,8 @@ pub data Phase : Type 0 where
 pub data Work : Type 0 where
   -- a block by its sign, with the formula of its `replace` line
   Sign : Option Form → Work
+  -- a block by cases
+  Dls : Cases → Work
 
 -- an open block
 pub record Opened : Type 0 where
@@ -62,10 +66,16 @@ goal_of (problem.Elim ds goal) = goal
 -- a block as its opening line leaves it
 abbrev pub opened : Method → Block → Opened
 opened method.Sign b = record { block = b; work = Sign None }
+opened method.Dls b = record { block = b; work = Dls no_cases }
 
--- the formula that a block's lines have come to
-abbrev pub outcome : Work → Option Form
-outcome (Sign f) = f
+-- the formula that the lines of a block have come to, by whether its quantifier is existential
+abbrev pub comes_to : Bool → Work → Option Form
+comes_to exists (Sign f) = f
+comes_to exists (Dls w) = cases_come_to exists w.normal w.due w.present w.given
+
+-- the formula that an open block has come to
+abbrev pub outcome : Opened → Option Form
+outcome o = comes_to o.block.exists o.work
 
 -- the numbers of a problem's declared variables: binders of a tidy formula have others
 abbrev pub kept : Problem → List ℕ
@@ -87,14 +97,21 @@ pub data Step (s : State) : Row → State → Type 0 where
   replace : {v : Bool} {f : Form} {b : Block} → s.phase ≡ Running → s.block ≡ Some (opened method.Sign b)
       → value_for b ≡ Some v → same f (valued b.pred.num v b.body) ≡ true
       → Step s (Further (line.Replace v f)) (record s { block = Some (record { block = b; work = Sign (Some f) }) })
+  dls : {b : Block} {w v : Cases} {l : Line} {p : Problem} → s.phase ≡ Running → s.problem ≡ Some p
+      → s.block ≡ Some (record { block = b; work = Dls w }) → CaseStep (kept p) b w l v
+      → Step s (Further l) (record s { block = Some (record { block = b; work = Dls v }) })
   close : {f g r : Form} {p : Problem} {o : Opened} → s.phase ≡ Running → s.problem ≡ Some p → s.formula ≡ Some g → s.block ≡ Some o
-      → outcome o.work ≡ Some r → same f (simplified (kept p) r) ≡ true
+      → outcome o ≡ Some r → same f (simplified (kept p) r) ≡ true
       → Step s (Further (line.Close f)) (record s { formula = Some (simplified (kept p) (put_at o.block.place f g)); block = None })
   result : {f g : Form} → s.phase ≡ Running → s.formula ≡ Some g → s.block ≡ None → first_block g ≡ None → same f g ≡ true
       → Step s (Further (line.Result f)) (record s { phase = Answered; formula = Some f })
   mixed : {i j : ℕ} {b : Block} → s.phase ≡ Running → s.block ≡ Some (opened method.Sign b)
       → first_pos (Bound b.pred.num) b.body ≡ Some i → first_neg (Bound b.pred.num) b.body ≡ Some j
       → Step s (Further (line.Stopped (stop.Mixed i j))) (record s { phase = Halted })
+  not_reached : {b : Block} {w : Cases} {c : Present} {n : ℕ} → s.phase ≡ Running → s.block ≡ Some (record { block = b; work = Dls w })
+      → w.present ≡ Some c → c.sign ≡ None → n ≡ w.number
+      → IsStuck true (Bound b.pred.num) c.conj → IsStuck false (Bound b.pred.num) c.conj
+      → Step s (Further (line.Stopped (stop.NotReached n))) (record s { phase = Halted })
   end_answered : s.phase ≡ Answered → Step s (Further line.End) (record s { phase = Accepted })
   end_halted : s.phase ≡ Halted → Step s (Further line.End) (record s { phase = Ended })
 

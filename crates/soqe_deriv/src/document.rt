@@ -1,6 +1,7 @@
 //! Documents and their lines.
 ghost use Rattle.std.specs.Prelude.{◌≡◌, ◌∷◌, [], ◌++◌, OnOk, OnErr};
 
+use soqe_ack::DlsStep;
 use soqe_form::{Form, Pred};
 use soqe_term::Mem;
 use soqe_text::Problem;
@@ -13,6 +14,8 @@ use std::marker::Model;
 pub enum Method {
     /// By a truth value, where the predicate occurs with one sign alone.
     Sign,
+    /// By the cases of the body's normal form, each by what its guards say of the predicate.
+    Dls,
 }
 
 /// Why a derivation stopped.
@@ -21,6 +24,8 @@ pub enum Stop {
     /// The block's predicate occurs with both signs: the first atom with a positive occurrence and the first with a
     /// negative one, counted from 1.
     Mixed { pos: u64, neg: u64 },
+    /// No sign reaches the case with this number: some conjunct has the sign and is no guard of it.
+    NotReached(u64),
 }
 
 /// A line behind the lines of the problem.
@@ -32,6 +37,10 @@ pub enum Line {
     Block { method: Method, pred: Pred },
     /// The block's predicate is replaced by a truth value.
     Replace { value: bool, form: Boxed<Form> },
+    /// The body of a block by cases, or its negation where the quantifier is universal, in normal form.
+    Nnf(Boxed<Form>),
+    /// A step of a block by cases.
+    Dls(DlsStep),
     /// The block's formula takes its place.
     Close(Boxed<Form>),
     Result(Boxed<Form>),

@@ -1,7 +1,8 @@
-//! A document with a line of each kind, and its text by hand.
+//! Documents with a line of each kind, and their texts by hand.
 use crate::{Document, Line, Lines, Method, Stop, write_document};
+use soqe_ack::{DlsStep, Sign};
 use soqe_form::{Form, PVar, Pred};
-use soqe_term::{Kind, Mem, Signature, Sorts, Terms};
+use soqe_term::{Kind, Mem, Signature, Sorts, Terms, Var, Vars};
 use soqe_text::Problem;
 use sqlite_items::Boxed;
 use std::alloc::{AllocError, Global};
@@ -15,12 +16,14 @@ fn declare(signature: &mut Signature, name: &str, kind: Kind) -> Mem<()> {
     }
 }
 
-/// The predicate `Q`, and the name `P`.
+/// The sort `course`, the predicate `Q`, and the names `P` and `x`.
 fn names(alloc: Global) -> Mem<Signature> {
     let mut signature = Signature::new(alloc)?;
     let args = Sorts::new(alloc);
+    declare(&mut signature, "course", Kind::Sort)?;
     declare(&mut signature, "Q", Kind::Pred { args })?;
     declare(&mut signature, "P", Kind::PredName)?;
+    declare(&mut signature, "x", Kind::VarName)?;
     Ok(signature)
 }
 
@@ -56,6 +59,60 @@ fn push_close(alloc: Global, lines: &mut Lines) -> Mem<()> {
 fn push_result(alloc: Global, lines: &mut Lines) -> Mem<()> {
     let form = atom(alloc, Pred::Bound(3))?;
     lines.push(Line::Result(form))
+}
+
+/// The variables with these sorts, numbered from 0.
+fn parameters(alloc: Global, sorts: &[u32]) -> Mem<Vars> {
+    let mut vars = Vars::new(alloc);
+    let mut num = 0;
+    for sort in sorts {
+        let sort = *sort;
+        vars.push(Var { num, sort })?;
+        num = u64::wrapping_add(num, 1);
+    }
+    Ok(vars)
+}
+
+fn push_ack(alloc: Global, lines: &mut Lines, sign: Sign, sorts: &[u32]) -> Mem<()> {
+    let params = parameters(alloc, sorts)?;
+    let value = atom(alloc, Pred::Decl(0))?;
+    let pred = Pred::Bound(0);
+    lines.push(Line::Dls(DlsStep::Ack {
+        sign,
+        pred,
+        params,
+        value,
+    }))
+}
+
+fn push_case(alloc: Global, lines: &mut Lines) -> Mem<()> {
+    let method = Method::Dls;
+    let pred = Pred::Bound(0);
+    lines.push(Line::Block { method, pred })?;
+    let form = atom(alloc, Pred::Bound(0))?;
+    lines.push(Line::Nnf(form))?;
+    let form = atom(alloc, Pred::Bound(0))?;
+    lines.push(Line::Dls(DlsStep::Case { num: 12, form }))
+}
+
+fn push_gives(alloc: Global, lines: &mut Lines) -> Mem<()> {
+    let form = atom(alloc, Pred::Decl(0))?;
+    lines.push(Line::Dls(DlsStep::Gives(form)))?;
+    lines.push(Line::Stopped(Stop::NotReached(3)))
+}
+
+fn push_steps(alloc: Global, lines: &mut Lines) -> Mem<()> {
+    push_case(alloc, lines)?;
+    push_ack(alloc, lines, Sign::Pos, &[])?;
+    push_ack(alloc, lines, Sign::Neg, &[0])?;
+    push_ack(alloc, lines, Sign::Pos, &[1, 0])?;
+    push_gives(alloc, lines)
+}
+
+fn steps(alloc: Global) -> Mem<Lines> {
+    let mut lines = Lines::new(alloc);
+    push_steps(alloc, &mut lines)?;
+    Ok(lines)
 }
 
 fn push_ending(lines: &mut Lines) -> Mem<()> {
@@ -96,8 +153,7 @@ fn is_spelled(alloc: Global, document: &Document, text: &[u8]) -> Mem<bool> {
     Ok(written.as_slice() == text)
 }
 
-fn spells(alloc: Global, text: &[u8]) -> Mem<bool> {
-    let lines = all_lines(alloc)?;
+fn spells(alloc: Global, lines: Lines, text: &[u8]) -> Mem<bool> {
     let problem = problem(alloc)?;
     is_spelled(alloc, &Document { problem, lines }, text)
 }
@@ -106,7 +162,18 @@ fn spells(alloc: Global, text: &[u8]) -> Mem<bool> {
 fn each_kind_of_line_is_spelled(rt: HostRuntime) -> Result<(), Fail> {
     let alloc = rt.alloc();
     let text =
-        b"soqe 1 elim\npred Q;\ngoal ex2 P. P;\nstart ex2 P. P\nblock sign P\nreplace true Q\nreplace false Q\nclose Q\nresult _p3\nstopped mixed 1 12\nend\n";
-    assert!(rt; spells(alloc, text.as_slice())?);
+        b"soqe 1 elim\nsort course;\npred Q;\ngoal ex2 P. P;\nstart ex2 P. P\nblock sign P\nreplace true Q\nreplace false Q\nclose Q\nresult _p3\nstopped mixed 1 12\nend\n";
+    let lines = all_lines(alloc)?;
+    assert!(rt; spells(alloc, lines, text.as_slice())?);
+    Ok(())
+}
+
+#[test]
+fn each_step_of_a_block_by_cases_is_spelled(rt: HostRuntime) -> Result<(), Fail> {
+    let alloc = rt.alloc();
+    let text =
+        b"soqe 1 elim\nsort course;\npred Q;\ngoal ex2 P. P;\nblock dls P\nnnf P\ncase 12 P\nack pos P := Q\nack neg P(x) := Q\nack pos P(x:course, _1) := Q\ngives Q\nstopped notreached 3\n";
+    let lines = steps(alloc)?;
+    assert!(rt; spells(alloc, lines, text.as_slice())?);
     Ok(())
 }

@@ -6,6 +6,7 @@ ghost use Rattle.soqe_deriv.specs.declared.document.Line.TheVariants as line;
 ghost use Rattle.soqe_show.specs.Dress.{form_text};
 ghost use Rattle.soqe_deriv.specs.Text.{declared_of, document_text, head_text, line_text, lines_text, stop_text};
 
+use crate::steps::write_step;
 use crate::{Document, Line, Method, Stop};
 use soqe_form::{Form, Pred};
 use soqe_show::{write_form, write_number, write_pred, write_problem};
@@ -85,6 +86,8 @@ fn write_content(out: &mut String, sig: &Signature, line: &Line) -> Mem<()>
                 write_with_form(out, sig, "replace false ", form.get())
             }
         }
+        Line::Nnf(form) => write_with_form(out, sig, "nnf ", form.get()),
+        Line::Dls(step) => write_step(out, sig, step),
         Line::Close(form) => write_with_form(out, sig, "close ", form.get()),
         Line::Result(form) => write_with_form(out, sig, "result ", form.get()),
         Line::Stopped(stop) => write_stopped(out, *stop),
@@ -106,6 +109,7 @@ fn write_block(out: &mut String, sig: &Signature, method: Method, pred: Pred) ->
 {
     match method {
         Method::Sign => out.push_str("block sign ")?,
+        Method::Dls => out.push_str("block dls ")?,
     }
     write_pred(out, sig, pred)
 }
@@ -120,6 +124,10 @@ fn write_stopped(out: &mut String, stop: Stop) -> Mem<()>
             write_number(out, pos)?;
             out.push_str(" ")?;
             write_number(out, neg)
+        }
+        Stop::NotReached(case) => {
+            out.push_str("stopped notreached ")?;
+            write_number(out, case)
         }
     }
 }
