@@ -2,9 +2,9 @@
 --
 -- As for problems (Places): what begins a formula is closed under taking fronts, so there is one first token after which no
 -- formula goes on, and none in a formula.
-use Rattle.std.proofs.Common.{◌≡◌, ℕ, ◌+◌, ◌≤◌, ◌<◌, List, [], ◌∷◌, ◌++◌, length, get_or, take, drop, map, Option, Some, None, refl, sym, ap, subst, ◌∙◌, append_assoc, arith, inl, inr}
+use Rattle.std.proofs.Common.{◌≡◌, ℕ, ◌+◌, ◌≤◌, List, [], ◌++◌, length, take, drop, map, Option, Some, None, refl, sym, ap, subst, ◌∙◌, append_assoc, arith, inl, inr}
 use Rattle.std.specs.Prelude.{slice_get}
-use Rattle.std.proofs.lemmas.List.{append-nil, map-append, take-append-drop, take-take, take_more}
+use Rattle.std.proofs.lemmas.List.{append-nil, map-append, take-append-drop, take-take}
 use Rattle.std.proofs.lemmas.Bool.{cases_order}
 use Rattle.soqe_lex.specs.declared.token.Token.{Token}
 use Rattle.soqe_lex.specs.Lexical.{Lexed}
@@ -13,7 +13,7 @@ use Rattle.soqe_syntax.specs.declared.piece.Span.{Span}
 use Rattle.soqe_syntax.specs.declared.piece.Piece.{Piece}
 use Rattle.soqe_syntax.specs.Grammar.{Tree, HasShape}
 use Rattle.soqe_syntax.specs.Pieces.{piece_of}
-use Rattle.soqe_parse.specs.Machine.{Want, Dead, State, run, parse}
+use Rattle.soqe_parse.specs.Machine.{Want, Dead, run, parse}
 use Rattle.soqe_parse.specs.Formulas.{HasForm, IsFormViable, IsFormFaultIn, at_token, at_byte, at_end, OneForm, FaultOrForm, OneFormPlace}
 use Rattle.soqe_parse.proofs.FormulaComplete.{one_shape, parse-spelled, dead_is_not_viable, alive}
 use Rattle.soqe_parse.proofs.FormulaSound.{parse-sound}

@@ -1,5 +1,5 @@
 //! Tables of texts, with the places of their faults, and of formulas, with their outermost operators.
-use super::{ProblemShape, ShapeError, read_problem_shape};
+use super::{ProblemShape, ShapeError, form_or_fault, read_form_shape, read_problem_shape};
 use soqe_syntax::{Operator, Shape};
 use std::alloc::Global;
 use std::test::Fail;
@@ -59,6 +59,41 @@ fn no_faults(rt: HostRuntime) -> Result<(), Fail> {
     ];
     for text in cases {
         assert_eq!(rt; fault(rt.alloc(), text)?, None);
+    }
+    Ok(())
+}
+
+/// The offset of the fault of a formula's text, or `None` where it has a shape.
+fn form_fault(alloc: Global, text: &[u8]) -> Result<Option<u64>, Fail> {
+    if text.len() >= 4_294_967_296 {
+        return Err(Fail::from("too long"));
+    }
+    match read_form_shape(alloc, text) {
+        Ok(_) => Ok(None),
+        Err(ShapeError::Syntax(at)) => Ok(Some(at)),
+        Err(ShapeError::Memory) => Err(Fail::from("no memory")),
+    }
+}
+
+#[test]
+fn formulas(rt: HostRuntime) -> Result<(), Fail> {
+    form_or_fault();
+    let cases: [(&[u8], Option<u64>); 12] = [
+        (b"true", None),
+        (b" ((A)) # behind it", None),
+        (b"all x: s. P(_f0(x), _1) -> ex2 _p0. _p0 & x != y", None),
+        (b"", Some(0)),
+        (b"A;", Some(1)),
+        (b"A B", Some(2)),
+        (b"A)", Some(1)),
+        (b"A $", Some(2)),
+        (b"goal A", Some(0)),
+        (b"P(x", Some(3)),
+        (b"A <-> B <-> C", Some(8)),
+        (b"~", Some(1)),
+    ];
+    for (text, fault) in cases {
+        assert_eq!(rt; form_fault(rt.alloc(), text)?, fault);
     }
     Ok(())
 }

@@ -1,7 +1,13 @@
 mod Bindings
 mod Declarings
 pub mod Entries
+mod Fronts
+mod Lookups
 mod Names
+mod Numbers
+mod SameNames
 mod Scopes
 mod SpelledSorted
 mod Spelling
+mod FormSpelling
+mod TaggedNames

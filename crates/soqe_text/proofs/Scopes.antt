@@ -1,10 +1,14 @@
 -- Counting the numbers in scope.
-use Rattle.std.specs.Prelude.{ℕ, zero, suc, ◌≡◌, ◌≤◌, ◌<◌, ◌+◌, ◌-◌, Bool, true, false, cond, eqb, nat_lt, ◌||◌, List, [], ◌∷◌, ◌++◌, length, get_or, set, replicate, refl}
-use Rattle.std.proofs.Common.{sym, ◌∙◌, ap, arith, true≢false}
+use Rattle.std.specs.Prelude.{ℕ, suc, ◌≡◌, ◌+◌, ◌-◌, Bool, true, false, cond, eqb, nat_lt, ◌||◌, List, [], ◌∷◌, ◌++◌, length, take, reverse, slice_get, Option, Some, refl}
+use Rattle.std.proofs.Common.{sym, ◌∙◌, ap, arith}
 use Rattle.std.proofs.lemmas.Bool.{eq-eqb, eqb-true}
-use Rattle.std.proofs.lemmas.Grind.{get_or-set_at}
-use Rattle.std.proofs.lemmas.List.{get_or-set_other}
+use Rattle.std.proofs.lemmas.List.{reverse-append, take_more}
+use Rattle.std.proofs.lemmas.Option.{get_or_from_slice_get, slice_get_within}
+use Rattle.std.proofs.Math.Seq.{take-length}
 use Rattle.std.specs.List.{list_any}
+use Rattle.std.specs.Option.{unwrap_or}
+use Rattle.soqe_term.specs.World.{changed}
+use Rattle.soqe_term.proofs.Renumbered.{eqb_sym}
 use Rattle.soqe_text.specs.Scope.{times, IsCounted}
 
 positive : (m : ℕ) → nat_lt 0 (suc m) ≡ true
@@ -19,25 +23,6 @@ any_times n (k ∷ ks) = by (eqb k n) (any_times n ks)
     by true h = sym (positive (times n ks))
     by false h = h
 
-pub times-le : (n : ℕ) (scope : List ℕ) → times n scope ≤ length scope
-times-le n [] = omega arith
-times-le n (k ∷ ks) = by (eqb k n) (times-le n ks)
-  where
-    by : (b : Bool) → times n ks ≤ length ks → cond b (suc (times n ks)) (times n ks) ≤ length (k ∷ ks)
-    by true h = omega (arith, h)
-    by false h = omega (arith, h)
-
-get_or-padded : (xs : List ℕ) (k n : ℕ) → get_or (xs ++ replicate k 0) n 0 ≡ get_or xs n 0
-get_or-padded [] zero n = refl
-get_or-padded [] (suc k) zero = refl
-get_or-padded [] (suc k) (suc n) = get_or-padded [] k n
-get_or-padded (x ∷ xs) k zero = refl
-get_or-padded (x ∷ xs) k (suc n) = get_or-padded xs k n
-
--- counts of 0 behind the others change nothing
-pub IsCounted-padded : (counts scope : List ℕ) (k : ℕ) → IsCounted counts scope → IsCounted (counts ++ replicate k 0) scope
-IsCounted-padded counts scope k h n = get_or-padded counts k n ∙ h n
-
 add_one : (m : ℕ) → m + 1 ≡ suc m
 add_one m = omega arith
 
@@ -45,40 +30,37 @@ less_one : (m : ℕ) → suc m - 1 ≡ m
 less_one m = omega arith
 
 -- one more number in scope
-pub IsCounted-entered : (counts scope : List ℕ) (num : ℕ) → IsCounted counts scope → num < length counts
-    → IsCounted (set counts num (get_or counts num 0 + 1)) (num ∷ scope)
-IsCounted-entered counts scope num h within n = by (eqb num n) refl
+pub IsCounted-entered : (counts : ℕ → Option ℕ) (scope : List ℕ) (num count : ℕ) → IsCounted counts scope → count ≡ unwrap_or (counts num) 0 + 1
+    → IsCounted (changed counts num (Some count)) (num ∷ scope)
+IsCounted-entered counts scope num count h is n = by (eqb num n) refl
   where
-    by : (b : Bool) → eqb num n ≡ b → get_or (set counts num (get_or counts num 0 + 1)) n 0 ≡ cond b (suc (times n scope)) (times n scope)
-    by true e =
-        let same : n ≡ num = sym (eqb-true num n e) in
-        get_or-set_at counts num n (get_or counts num 0 + 1) 0 same within ∙ ap (λ m. m + 1) (h num ∙ ap (λ m. times m scope) (sym same)) ∙ add_one (times n scope)
-    by false e = get_or-set_other counts num n (get_or counts num 0 + 1) 0 (λ same. true≢false (sym (eq-eqb num n (sym same)) ∙ e)) ∙ h n
+    here : (b : Bool) → eqb num n ≡ b → unwrap_or (changed counts num (Some count) n) 0 ≡ unwrap_or (cond b (Some count) (counts n)) 0
+    here b e = ap (λ c. unwrap_or (cond c (Some count) (counts n)) 0) (eqb_sym n num ∙ e)
+
+    by : (b : Bool) → eqb num n ≡ b → unwrap_or (changed counts num (Some count) n) 0 ≡ cond b (suc (times n scope)) (times n scope)
+    by true e = here true e ∙ is ∙ ap (λ m. m + 1) (h num) ∙ add_one (times num scope) ∙ ap (λ m. suc (times m scope)) (eqb-true num n e)
+    by false e = here false e ∙ h n
 
 -- the innermost number leaves the scope
-pub IsCounted-left : (counts scope : List ℕ) (num : ℕ) → IsCounted counts (num ∷ scope) → num < length counts
-    → IsCounted (set counts num (get_or counts num 0 - 1)) scope
-IsCounted-left counts scope num h within n = by (eqb num n) refl (h n)
+pub IsCounted-left : (counts : ℕ → Option ℕ) (scope : List ℕ) (num count : ℕ) → IsCounted counts (num ∷ scope) → count ≡ unwrap_or (counts num) 0 - 1
+    → IsCounted (changed counts num (Some count)) scope
+IsCounted-left counts scope num count h is n = by (eqb num n) refl (h n)
   where
-    by : (b : Bool) → eqb num n ≡ b → get_or counts n 0 ≡ cond b (suc (times n scope)) (times n scope)
-        → get_or (set counts num (get_or counts num 0 - 1)) n 0 ≡ times n scope
-    by true e at =
-        let same : n ≡ num = sym (eqb-true num n e) in
-        get_or-set_at counts num n (get_or counts num 0 - 1) 0 same within ∙ ap (λ m. get_or counts m 0 - 1) (sym same) ∙ ap (λ m. m - 1) at ∙ less_one (times n scope)
-    by false e at = get_or-set_other counts num n (get_or counts num 0 - 1) 0 (λ same. true≢false (sym (eq-eqb num n (sym same)) ∙ e)) ∙ at
+    here : (b : Bool) → eqb num n ≡ b → unwrap_or (changed counts num (Some count) n) 0 ≡ unwrap_or (cond b (Some count) (counts n)) 0
+    here b e = ap (λ c. unwrap_or (cond c (Some count) (counts n)) 0) (eqb_sym n num ∙ e)
 
--- the innermost number has a count
-pub count-left : (counts scope : List ℕ) (num : ℕ) → IsCounted counts (num ∷ scope) → 0 < get_or counts num 0
-count-left counts scope num h = by (eqb num num) refl (h num)
-  where
-    by : (b : Bool) → eqb num num ≡ b → get_or counts num 0 ≡ cond b (suc (times num scope)) (times num scope) → 0 < get_or counts num 0
-    by true e at = omega (arith, at)
-    by false e at = absurd (true≢false (sym (eq-eqb num num refl) ∙ e))
+    own : unwrap_or (counts num) 0 ≡ suc (times num scope)
+    own = h num ∙ ap (λ b. cond b (suc (times num scope)) (times num scope)) (eq-eqb num num refl)
 
-pub within-left : (counts scope : List ℕ) (num : ℕ) → IsCounted counts (num ∷ scope) → num < length counts
-within-left counts scope num h = some counts num (count-left counts scope num h)
-  where
-    some : (xs : List ℕ) (n : ℕ) → 0 < get_or xs n 0 → n < length xs
-    some [] n h = absurd (omega (arith, h))
-    some (x ∷ xs) zero h = omega arith
-    some (x ∷ xs) (suc n) h = let rest = some xs n h in omega (arith, rest)
+    by : (b : Bool) → eqb num n ≡ b → unwrap_or (counts n) 0 ≡ cond b (suc (times n scope)) (times n scope) → unwrap_or (changed counts num (Some count) n) 0 ≡ times n scope
+    by true e at = here true e ∙ is ∙ ap (λ m. m - 1) own ∙ less_one (times num scope) ∙ ap (λ m. times m scope) (eqb-true num n e)
+    by false e at = here false e ∙ at
+
+-- the last of a list stands in front of its reverse
+pub last_first : (xs : List ℕ) (x : ℕ) → slice_get xs (length xs - 1) ≡ Some x → reverse xs ≡ x ∷ reverse (take (length xs - 1) xs)
+last_first xs x e =
+    let within = slice_get_within xs (length xs - 1) x e in
+    let all : length xs ≡ (length xs - 1) + 1 = omega (arith, within) in
+    ap reverse (sym (take-length xs) ∙ ap (λ n. take n xs) all ∙ take_more xs (length xs - 1) x within
+    ∙ ap (λ y. take (length xs - 1) xs ++ y ∷ []) (get_or_from_slice_get xs (length xs - 1) x x e))
+    ∙ reverse-append (take (length xs - 1) xs) (x ∷ [])

@@ -1,10 +1,15 @@
+pub mod FormTables
 pub mod Lexing
+pub mod Lookups
+pub mod Meanings
 pub mod Naming
 pub mod NewNames
+pub mod Number
 pub mod Numbering
 pub mod Refused
 pub mod Scope
 pub mod Sorted
 pub mod Spelled
+pub mod SpelledForm
 pub mod Spellings
 pub mod Uses

@@ -30,8 +30,12 @@ is_usable vs ps None = false
 is_usable vs ps (Some f) = elim f.kind [ kind.VarName ↦ list_any (λ n. eqb n f.num) vs | kind.PredName ↦ list_any (λ n. eqb n f.num) ps | _ ↦ true ]
 
 -- a name is used where it stands for nothing
+abbrev pub is_unknown_by : List ℕ → (List ℕ → Option Found) → List ℕ → List ℕ → Span → Bool
+is_unknown_by bytes look vs ps x = not (is_usable vs ps (look (text_at bytes x)))
+
+-- a name is used where it stands for nothing
 abbrev pub is_unknown : List ℕ → List Declaration → List ℕ → List ℕ → Span → Bool
-is_unknown bytes ds vs ps x = not (is_usable vs ps (lookup ds (text_at bytes x)))
+is_unknown bytes ds = is_unknown_by bytes (lookup ds)
 
 -- where a name begins
 abbrev pub start_of : Option Span → Option ℕ
@@ -39,23 +43,39 @@ start_of None = None
 start_of (Some x) = Some x.start
 
 -- the first of some names that is unknown
+abbrev pub unknown_of_by : List ℕ → (List ℕ → Option Found) → List ℕ → List ℕ → List Span → Option ℕ
+unknown_of_by bytes look vs ps xs = start_of (find (λ x. is_unknown_by bytes look vs ps x) xs)
+
+-- the first of some names that is unknown
 abbrev pub unknown_of : List ℕ → List Declaration → List ℕ → List ℕ → List Span → Option ℕ
-unknown_of bytes ds vs ps xs = start_of (find (λ x. is_unknown bytes ds vs ps x) xs)
+unknown_of bytes ds = unknown_of_by bytes (lookup ds)
+
+-- a name, if it is unknown
+abbrev pub unknown_name_by : List ℕ → (List ℕ → Option Found) → List ℕ → List ℕ → Span → Option ℕ
+unknown_name_by bytes look vs ps x = cond (is_unknown_by bytes look vs ps x) (Some x.start) None
 
 -- a name, if it is unknown
 abbrev pub unknown_name : List ℕ → List Declaration → List ℕ → List ℕ → Span → Option ℕ
-unknown_name bytes ds vs ps x = cond (is_unknown bytes ds vs ps x) (Some x.start) None
+unknown_name bytes ds = unknown_name_by bytes (lookup ds)
 
 abbrev mutual
   -- the first unknown name of a term
-  pub unknown_in : List ℕ → List Declaration → List ℕ → List ℕ → syntax.Term Span → Option ℕ
-  unknown_in bytes ds vs ps (syntax.Plain x) = unknown_name bytes ds vs ps x
-  unknown_in bytes ds vs ps (syntax.Applied x ts) = option_or (unknown_name bytes ds vs ps x) (unknown_in_all bytes ds vs ps ts)
+  pub unknown_in_by : List ℕ → (List ℕ → Option Found) → List ℕ → List ℕ → syntax.Term Span → Option ℕ
+  unknown_in_by bytes look vs ps (syntax.Plain x) = unknown_name_by bytes look vs ps x
+  unknown_in_by bytes look vs ps (syntax.Applied x ts) = option_or (unknown_name_by bytes look vs ps x) (unknown_in_all_by bytes look vs ps ts)
 
   -- the first unknown name of terms
-  pub unknown_in_all : List ℕ → List Declaration → List ℕ → List ℕ → syntax.Terms Span → Option ℕ
-  unknown_in_all bytes ds vs ps (syntax.One t) = unknown_in bytes ds vs ps t
-  unknown_in_all bytes ds vs ps (syntax.More ts t) = option_or (unknown_in_all bytes ds vs ps ts) (unknown_in bytes ds vs ps t)
+  pub unknown_in_all_by : List ℕ → (List ℕ → Option Found) → List ℕ → List ℕ → syntax.Terms Span → Option ℕ
+  unknown_in_all_by bytes look vs ps (syntax.One t) = unknown_in_by bytes look vs ps t
+  unknown_in_all_by bytes look vs ps (syntax.More ts t) = option_or (unknown_in_all_by bytes look vs ps ts) (unknown_in_by bytes look vs ps t)
+
+-- the first unknown name of a term
+abbrev pub unknown_in : List ℕ → List Declaration → List ℕ → List ℕ → syntax.Term Span → Option ℕ
+unknown_in bytes ds = unknown_in_by bytes (lookup ds)
+
+-- the first unknown name of terms
+abbrev pub unknown_in_all : List ℕ → List Declaration → List ℕ → List ℕ → syntax.Terms Span → Option ℕ
+unknown_in_all bytes ds = unknown_in_all_by bytes (lookup ds)
 
 -- what stands for a name at a binder of a variable: a declared free variable, or a name that was bound before, keeps its number
 abbrev pub variable_place : Option Found → Place
@@ -87,9 +107,13 @@ or_refused None at = Err at
 or_refused (Some e) at = Ok e
 
 -- the sort of a binder, if one is written that is unknown
+abbrev pub unknown_sort_by : List ℕ → (List ℕ → Option Found) → List ℕ → List ℕ → Option Span → Option ℕ
+unknown_sort_by bytes look vs ps None = None
+unknown_sort_by bytes look vs ps (Some s) = unknown_name_by bytes look vs ps s
+
+-- the sort of a binder, if one is written that is unknown
 abbrev pub unknown_sort : List ℕ → List Declaration → List ℕ → List ℕ → Option Span → Option ℕ
-unknown_sort bytes ds vs ps None = None
-unknown_sort bytes ds vs ps (Some s) = unknown_name bytes ds vs ps s
+unknown_sort bytes ds = unknown_sort_by bytes (lookup ds)
 
 -- a variable that is bound with its sort, or the first refused name of its binder
 abbrev pub variable_bound : List ℕ → List Declaration → List ℕ → List ℕ → Span → Option Span → Result Entered ℕ
@@ -118,12 +142,20 @@ sort_of_found None = 0
 sort_of_found (Some f) = elim f.kind [ kind.Sort ↦ f.num | _ ↦ 0 ]
 
 -- the number of a sort by its name
+abbrev pub sort_number_by : List ℕ → (List ℕ → Option Found) → Span → ℕ
+sort_number_by bytes look s = sort_of_found (look (text_at bytes s))
+
+-- the number of a sort by its name
 abbrev pub sort_number : List ℕ → List Declaration → Span → ℕ
-sort_number bytes ds s = sort_of_found (lookup ds (text_at bytes s))
+sort_number bytes ds = sort_number_by bytes (lookup ds)
+
+-- the numbers of sorts by their names
+abbrev pub sort_numbers_by : List ℕ → (List ℕ → Option Found) → List Span → List ℕ
+sort_numbers_by bytes look ss = map (λ s. sort_number_by bytes look s) ss
 
 -- the numbers of sorts by their names
 abbrev pub sort_numbers : List ℕ → List Declaration → List Span → List ℕ
-sort_numbers bytes ds ss = map (λ s. sort_number bytes ds s) ss
+sort_numbers bytes ds = sort_numbers_by bytes (lookup ds)
 
 -- the name that a declaration declares
 abbrev pub name_declared : syntax.Declared Span → Span

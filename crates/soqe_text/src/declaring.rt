@@ -4,9 +4,11 @@ ghost use Rattle.std.specs.Option.{option_or};
 ghost use Rattle.soqe_syntax.specs.Shapes.{declared_view};
 ghost use Rattle.soqe_term.specs.declared.kinds.NameKind.TheVariants as numbering;
 ghost use Rattle.soqe_term.specs.Declarations.{count_of};
-ghost use Rattle.soqe_text.specs.Naming.{sort_number, sort_numbers, name_declared, kind_declared, unknown_name, unknown_of, unknown_in_declared, named_declared, all_named_declared};
+ghost use Rattle.soqe_text.specs.Lookups.{found_by};
+ghost use Rattle.soqe_text.specs.Naming.{sort_number_by, sort_numbers_by, name_declared, kind_declared, unknown_name_by, unknown_of_by, unknown_in_declared, named_declared, all_named_declared};
 ghost use Rattle.soqe_text.specs.Refused.{OnRefusedAt};
 
+use crate::lookup::{Lookup, Meaning, found};
 use crate::naming::{unknown_name, unknown_of};
 use crate::new_names::{NameFault, declare};
 use crate::refused::Refused;
@@ -17,39 +19,33 @@ use soqe_term::{Kind, Mem, Signature, Sorts};
 use std::alloc::Global;
 
 /// The number of a sort by its name; a name that is no sort's counts as `obj`.
-#[tactic(auto, using(crate::proofs::Names::lookup_below))]
-pub(crate) fn sort_number(bytes: &[u8], sig: &Signature, name: Span) -> u32
-    ensures { result ≡ sort_number bytes.now sig.now name }
+pub(crate) fn sort_number(bytes: &[u8], look: &Lookup, name: Span) -> u32
+    ensures { result ≡ sort_number_by bytes.now (found_by look.now) name }
 {
-    let _count = sig.len();
-    match sig.lookup_bytes(text(bytes, name)) {
+    match found(look, text(bytes, name)) {
         None => 0,
-        Some((kind, num)) => match kind {
-            Kind::Sort => num as u32,
-            Kind::Fun { .. }
-            | Kind::Pred { .. }
-            | Kind::Free { .. }
-            | Kind::Rel
-            | Kind::Prop
-            | Kind::VarName
-            | Kind::PredName => 0,
+        Some(meaning) => match meaning {
+            Meaning::Sort(num) => num,
+            Meaning::Fun(_, _, _)
+            | Meaning::Skolem(_, _, _)
+            | Meaning::Pred(_, _)
+            | Meaning::Free(_, _)
+            | Meaning::Rel(_)
+            | Meaning::Prop(_)
+            | Meaning::Variable(_)
+            | Meaning::BoundPred(_) => 0,
         },
     }
 }
 
 /// The numbers of sorts by their names.
-pub(crate) fn sort_numbers(
-    alloc: Global,
-    bytes: &[u8],
-    sig: &Signature,
-    names: &Spans,
-) -> Mem<Sorts>
-    ensures { IfOk result (λ sorts. sorts ≡ sort_numbers bytes.now sig.now names.now) }
+pub(crate) fn sort_numbers(alloc: Global, bytes: &[u8], look: &Lookup, names: &Spans) -> Mem<Sorts>
+    ensures { IfOk result (λ sorts. sorts ≡ sort_numbers_by bytes.now (found_by look.now) names.now) }
 {
     let sorts: Vec<u32> = names
         .as_slice()
         .iter()
-        .map(|name| sort_number(bytes, sig, *name))
+        .map(|name| sort_number(bytes, look, *name))
         .collect(alloc)?;
     Ok(Sorts::from_vec(sorts))
 }
@@ -57,17 +53,17 @@ pub(crate) fn sort_numbers(
 /// The first unknown sort of a function.
 fn unknown_in_fun(
     bytes: &[u8],
-    sig: &Signature,
+    look: &Lookup,
     vars: &Scope,
     preds: &Scope,
     sorts: &Spans,
     value: Span,
 ) -> Option<u64>
-    ensures { result ≡ option_or (unknown_of bytes.now sig.now vars.now preds.now sorts.now) (unknown_name bytes.now sig.now vars.now preds.now value) }
+    ensures { result ≡ option_or (unknown_of_by bytes.now (found_by look.now) vars.now preds.now sorts.now) (unknown_name_by bytes.now (found_by look.now) vars.now preds.now value) }
 {
-    match unknown_of(bytes, sig, vars, preds, sorts) {
+    match unknown_of(bytes, look, vars, preds, sorts) {
         Some(at) => Some(at),
-        None => unknown_name(bytes, sig, vars, preds, value),
+        None => unknown_name(bytes, look, vars, preds, value),
     }
 }
 
@@ -77,11 +73,12 @@ fn unknown_in_item(alloc: Global, bytes: &[u8], sig: &Signature, item: &Item) ->
 {
     let vars = Scope::new(alloc);
     let preds = Scope::new(alloc);
+    let look = Lookup::Problem(sig);
     match item {
         Item::Sort(_) => None,
-        Item::Fun(_, sorts, value) => unknown_in_fun(bytes, sig, &vars, &preds, sorts, *value),
-        Item::Pred(_, sorts) => unknown_of(bytes, sig, &vars, &preds, sorts),
-        Item::Var(_, sort) => unknown_name(bytes, sig, &vars, &preds, *sort),
+        Item::Fun(_, sorts, value) => unknown_in_fun(bytes, &look, &vars, &preds, sorts, *value),
+        Item::Pred(_, sorts) => unknown_of(bytes, &look, &vars, &preds, sorts),
+        Item::Var(_, sort) => unknown_name(bytes, &look, &vars, &preds, *sort),
     }
 }
 
@@ -89,19 +86,20 @@ fn unknown_in_item(alloc: Global, bytes: &[u8], sig: &Signature, item: &Item) ->
 fn kind_of(alloc: Global, bytes: &[u8], sig: &Signature, item: &Item) -> Mem<Kind>
     ensures { IfOk result (λ kind. kind ≡ kind_declared bytes.now sig.now (declared_view item.now)) }
 {
+    let look = Lookup::Problem(sig);
     match item {
         Item::Sort(_) => Ok(Kind::Sort),
         Item::Fun(_, sorts, value) => {
-            let args = sort_numbers(alloc, bytes, sig, sorts)?;
-            let result = sort_number(bytes, sig, *value);
+            let args = sort_numbers(alloc, bytes, &look, sorts)?;
+            let result = sort_number(bytes, &look, *value);
             Ok(Kind::Fun { args, result })
         }
         Item::Pred(_, sorts) => {
-            let args = sort_numbers(alloc, bytes, sig, sorts)?;
+            let args = sort_numbers(alloc, bytes, &look, sorts)?;
             Ok(Kind::Pred { args })
         }
         Item::Var(_, sort) => {
-            let sort = sort_number(bytes, sig, *sort);
+            let sort = sort_number(bytes, &look, *sort);
             Ok(Kind::Free { sort })
         }
     }

@@ -1,12 +1,13 @@
 //! Names at their binders.
 ghost use Rattle.std.specs.Prelude.{◌≡◌, None, Some, IfOk};
-ghost use Rattle.soqe_term.specs.Declarations.{lookup};
 ghost use Rattle.soqe_text.specs.Naming.{variable_place, predicate_place, variable_entered, predicate_entered, entered_at};
 ghost use Rattle.soqe_text.specs.NewNames.{OnRefusedName};
+ghost use Rattle.soqe_text.specs.Lookups.{found_by};
 ghost use Rattle.soqe_term.specs.Declares.{first_unknown, sorts_named};
 ghost use Rattle.soqe_term.specs.Declarations.{count_of};
 ghost use Rattle.soqe_term.specs.declared.kinds.NameKind.TheVariants as numbering;
 
+use crate::lookup::{Lookup, Meaning, found};
 use crate::new_names::{NameFault, declare};
 use soqe_term::{Kind, Signature};
 
@@ -22,38 +23,41 @@ pub(crate) enum Place {
 }
 
 /// What a name is at a binder of a variable.
-fn variable_place(sig: &Signature, name: &[u8]) -> Place
-    ensures { result ≡ variable_place (lookup sig.now name.now) }
+pub(crate) fn variable_place(look: &Lookup, name: &[u8]) -> Place
+    ensures { result ≡ variable_place (found_by look.now name.now) }
 {
-    match sig.lookup_bytes(name) {
+    match found(look, name) {
         None => Place::New,
-        Some((kind, num)) => match kind {
-            Kind::VarName | Kind::Free { .. } => Place::Old(num),
-            Kind::Sort
-            | Kind::Fun { .. }
-            | Kind::Pred { .. }
-            | Kind::Rel
-            | Kind::Prop
-            | Kind::PredName => { Place::Taken }
+        Some(meaning) => match meaning {
+            Meaning::Variable(num) => Place::Old(num),
+            Meaning::Free(num, _) => Place::Old(num),
+            Meaning::Sort(_)
+            | Meaning::Fun(_, _, _)
+            | Meaning::Skolem(_, _, _)
+            | Meaning::Pred(_, _)
+            | Meaning::Rel(_)
+            | Meaning::Prop(_)
+            | Meaning::BoundPred(_) => { Place::Taken }
         },
     }
 }
 
 /// What a name is at a binder of a predicate.
-fn predicate_place(sig: &Signature, name: &[u8]) -> Place
-    ensures { result ≡ predicate_place (lookup sig.now name.now) }
+pub(crate) fn predicate_place(look: &Lookup, name: &[u8]) -> Place
+    ensures { result ≡ predicate_place (found_by look.now name.now) }
 {
-    match sig.lookup_bytes(name) {
+    match found(look, name) {
         None => Place::New,
-        Some((kind, num)) => match kind {
-            Kind::PredName => Place::Old(num),
-            Kind::Sort
-            | Kind::Fun { .. }
-            | Kind::Pred { .. }
-            | Kind::Free { .. }
-            | Kind::Rel
-            | Kind::Prop
-            | Kind::VarName => { Place::Taken }
+        Some(meaning) => match meaning {
+            Meaning::BoundPred(num) => Place::Old(num),
+            Meaning::Sort(_)
+            | Meaning::Fun(_, _, _)
+            | Meaning::Skolem(_, _, _)
+            | Meaning::Pred(_, _)
+            | Meaning::Free(_, _)
+            | Meaning::Rel(_)
+            | Meaning::Prop(_)
+            | Meaning::Variable(_) => { Place::Taken }
         },
     }
 }
@@ -77,7 +81,7 @@ pub(crate) fn enter_variable(sig: &mut Signature, name: &[u8]) -> Result<u64, Na
     ensures ok { IfOk result (λ num. variable_entered sig.old name.now ≡ Some (record { num = num; declared = sig.new })) }
     ensures refused { OnRefusedName result (variable_entered sig.old name.now ≡ None) }
 {
-    let place = variable_place(sig, name);
+    let place = variable_place(&Lookup::Problem(&*sig), name);
     entered_at(sig, name, Kind::VarName, place)
 }
 
@@ -87,6 +91,6 @@ pub(crate) fn enter_predicate(sig: &mut Signature, name: &[u8]) -> Result<u64, N
     ensures ok { IfOk result (λ num. predicate_entered sig.old name.now ≡ Some (record { num = num; declared = sig.new })) }
     ensures refused { OnRefusedName result (predicate_entered sig.old name.now ≡ None) }
 {
-    let place = predicate_place(sig, name);
+    let place = predicate_place(&Lookup::Problem(&*sig), name);
     entered_at(sig, name, Kind::PredName, place)
 }

@@ -2,55 +2,57 @@
 ghost use Rattle.std.specs.Prelude.{◌≡◌, ◌∷◌, None, Some, Ok, Err, IfOk, OnOk};
 ghost use Rattle.std.specs.Option.{option_or};
 ghost use Rattle.soqe_syntax.specs.Shapes.{view, term_view, terms_view};
-ghost use Rattle.soqe_term.specs.Declarations.{lookup};
-ghost use Rattle.soqe_text.specs.Naming.{is_usable, is_unknown, unknown_name, unknown_of, unknown_in, unknown_in_all, unknown_sort, variable_bound, predicate_bound, named};
+ghost use Rattle.soqe_text.specs.Lookups.{found_by};
+ghost use Rattle.soqe_text.specs.Naming.{is_usable, is_unknown_by, unknown_name_by, unknown_of_by, unknown_in_by, unknown_in_all_by, unknown_sort_by, variable_bound, predicate_bound, named};
 ghost use Rattle.soqe_text.specs.Refused.{OnRefusedAt};
 
 use crate::entering::{enter_predicate, enter_variable};
+use crate::lookup::{Lookup, Meaning, found};
 use crate::new_names::NameFault;
 use crate::refused::Refused;
 use crate::scope::Scope;
 use crate::spans::text;
 use soqe_syntax::{Expr, Exprs, Shape, Span, Spans};
-use soqe_term::{Kind, Signature};
+use soqe_term::Signature;
 
 /// Whether a name may be used.
-fn is_usable(sig: &Signature, vars: &Scope, preds: &Scope, name: &[u8]) -> bool
-    ensures { result ≡ is_usable vars.now preds.now (lookup sig.now name.now) }
+fn is_usable(look: &Lookup, vars: &Scope, preds: &Scope, name: &[u8]) -> bool
+    ensures { result ≡ is_usable vars.now preds.now (found_by look.now name.now) }
 {
-    match sig.lookup_bytes(name) {
+    match found(look, name) {
         None => false,
-        Some((kind, num)) => match kind {
-            Kind::VarName => vars.has(num),
-            Kind::PredName => preds.has(num),
-            Kind::Sort
-            | Kind::Fun { .. }
-            | Kind::Pred { .. }
-            | Kind::Free { .. }
-            | Kind::Rel
-            | Kind::Prop => true,
+        Some(meaning) => match meaning {
+            Meaning::Variable(num) => vars.has(num),
+            Meaning::BoundPred(num) => preds.has(num),
+            Meaning::Sort(_)
+            | Meaning::Fun(_, _, _)
+            | Meaning::Skolem(_, _, _)
+            | Meaning::Pred(_, _)
+            | Meaning::Free(_, _)
+            | Meaning::Rel(_)
+            | Meaning::Prop(_) => true,
         },
     }
 }
 
 /// Whether a name that is used stands for nothing.
-fn is_unknown(bytes: &[u8], sig: &Signature, vars: &Scope, preds: &Scope, name: Span) -> bool
-    ensures { result ≡ is_unknown bytes.now sig.now vars.now preds.now name }
+fn is_unknown(bytes: &[u8], look: &Lookup, vars: &Scope, preds: &Scope, name: Span) -> bool
+    ensures { result ≡ is_unknown_by bytes.now (found_by look.now) vars.now preds.now name }
 {
-    !is_usable(sig, vars, preds, text(bytes, name))
+    !is_usable(look, vars, preds, text(bytes, name))
 }
 
 /// A name, if it is unknown.
 pub(crate) fn unknown_name(
     bytes: &[u8],
-    sig: &Signature,
+    look: &Lookup,
     vars: &Scope,
     preds: &Scope,
     name: Span,
 ) -> Option<u64>
-    ensures { result ≡ unknown_name bytes.now sig.now vars.now preds.now name }
+    ensures { result ≡ unknown_name_by bytes.now (found_by look.now) vars.now preds.now name }
 {
-    if is_unknown(bytes, sig, vars, preds, name) {
+    if is_unknown(bytes, look, vars, preds, name) {
         Some(name.start)
     } else {
         None
@@ -60,17 +62,17 @@ pub(crate) fn unknown_name(
 /// The first unknown name.
 pub(crate) fn unknown_of(
     bytes: &[u8],
-    sig: &Signature,
+    look: &Lookup,
     vars: &Scope,
     preds: &Scope,
     names: &Spans,
 ) -> Option<u64>
-    ensures { result ≡ unknown_of bytes.now sig.now vars.now preds.now names.now }
+    ensures { result ≡ unknown_of_by bytes.now (found_by look.now) vars.now preds.now names.now }
 {
     match names
         .as_slice()
         .iter()
-        .find(|name| is_unknown(bytes, sig, vars, preds, **name))
+        .find(|name| is_unknown(bytes, look, vars, preds, **name))
     {
         Some(name) => Some(name.start),
         None => None,
@@ -78,37 +80,37 @@ pub(crate) fn unknown_of(
 }
 
 /// The sort of a binder, if one is written that is unknown.
-fn unknown_sort(
+pub(crate) fn unknown_sort(
     bytes: &[u8],
-    sig: &Signature,
+    look: &Lookup,
     vars: &Scope,
     preds: &Scope,
     sort: Option<Span>,
 ) -> Option<u64>
-    ensures { result ≡ unknown_sort bytes.now sig.now vars.now preds.now sort }
+    ensures { result ≡ unknown_sort_by bytes.now (found_by look.now) vars.now preds.now sort }
 {
     match sort {
-        Some(name) => unknown_name(bytes, sig, vars, preds, name),
+        Some(name) => unknown_name(bytes, look, vars, preds, name),
         None => None,
     }
 }
 
 /// The first unknown name of a term.
 #[cycle(unknown)]
-fn unknown_in(
+pub(crate) fn unknown_in(
     bytes: &[u8],
-    sig: &Signature,
+    look: &Lookup,
     vars: &Scope,
     preds: &Scope,
     term: &Expr,
 ) -> Option<u64>
-    ensures { result ≡ unknown_in bytes.now sig.now vars.now preds.now (term_view term.now) }
+    ensures { result ≡ unknown_in_by bytes.now (found_by look.now) vars.now preds.now (term_view term.now) }
 {
     match term {
-        Expr::Plain(name) => unknown_name(bytes, sig, vars, preds, *name),
-        Expr::Applied(name, terms) => match unknown_name(bytes, sig, vars, preds, *name) {
+        Expr::Plain(name) => unknown_name(bytes, look, vars, preds, *name),
+        Expr::Applied(name, terms) => match unknown_name(bytes, look, vars, preds, *name) {
             Some(at) => Some(at),
-            None => unknown_in_all(bytes, sig, vars, preds, terms),
+            None => unknown_in_all(bytes, look, vars, preds, terms),
         },
     }
 }
@@ -117,41 +119,41 @@ fn unknown_in(
 #[cycle(unknown)]
 fn unknown_in_all(
     bytes: &[u8],
-    sig: &Signature,
+    look: &Lookup,
     vars: &Scope,
     preds: &Scope,
     terms: &Exprs,
 ) -> Option<u64>
-    ensures { result ≡ unknown_in_all bytes.now sig.now vars.now preds.now (terms_view terms.now) }
+    ensures { result ≡ unknown_in_all_by bytes.now (found_by look.now) vars.now preds.now (terms_view terms.now) }
 {
     match terms {
-        Exprs::One(term) => unknown_in(bytes, sig, vars, preds, term),
-        Exprs::More(terms, term) => match unknown_in_all(bytes, sig, vars, preds, terms) {
+        Exprs::One(term) => unknown_in(bytes, look, vars, preds, term),
+        Exprs::More(terms, term) => match unknown_in_all(bytes, look, vars, preds, terms) {
             Some(at) => Some(at),
-            None => unknown_in(bytes, sig, vars, preds, term),
+            None => unknown_in(bytes, look, vars, preds, term),
         },
     }
 }
 
 /// The first unknown name of two terms.
-fn unknown_in_two(
+pub(crate) fn unknown_in_two(
     bytes: &[u8],
-    sig: &Signature,
+    look: &Lookup,
     vars: &Scope,
     preds: &Scope,
     left: &Expr,
     right: &Expr,
 ) -> Option<u64>
-    ensures { result ≡ option_or (unknown_in bytes.now sig.now vars.now preds.now (term_view left.now)) (unknown_in bytes.now sig.now vars.now preds.now (term_view right.now)) }
+    ensures { result ≡ option_or (unknown_in_by bytes.now (found_by look.now) vars.now preds.now (term_view left.now)) (unknown_in_by bytes.now (found_by look.now) vars.now preds.now (term_view right.now)) }
 {
-    match unknown_in(bytes, sig, vars, preds, left) {
+    match unknown_in(bytes, look, vars, preds, left) {
         Some(at) => Some(at),
-        None => unknown_in(bytes, sig, vars, preds, right),
+        None => unknown_in(bytes, look, vars, preds, right),
     }
 }
 
 /// That no name was refused.
-fn unless_refused(unknown: Option<u64>) -> Result<(), Refused>
+pub(crate) fn unless_refused(unknown: Option<u64>) -> Result<(), Refused>
     ensures ok { OnOk result (unknown ≡ None) }
     ensures refused { OnRefusedAt result (λ at. unknown ≡ Some at) }
 {
@@ -174,7 +176,7 @@ fn variable_bound(
     ensures refused { OnRefusedAt result (λ at. variable_bound bytes.now sig.old vars.now preds.now name sort ≡ Err at) }
 {
     match enter_variable(sig, text(bytes, name)) {
-        Ok(num) => match unknown_sort(bytes, sig, vars, preds, sort) {
+        Ok(num) => match unknown_sort(bytes, &Lookup::Problem(&*sig), vars, preds, sort) {
             Some(at) => Err(Refused::At(at)),
             None => Ok(num),
         },
@@ -196,7 +198,7 @@ fn predicate_bound(
     ensures refused { OnRefusedAt result (λ at. predicate_bound bytes.now sig.old vars.now preds.now name sorts.now ≡ Err at) }
 {
     match enter_predicate(sig, text(bytes, name)) {
-        Ok(num) => match unknown_of(bytes, sig, vars, preds, sorts) {
+        Ok(num) => match unknown_of(bytes, &Lookup::Problem(&*sig), vars, preds, sorts) {
             Some(at) => Err(Refused::At(at)),
             None => Ok(num),
         },
@@ -221,23 +223,29 @@ pub(crate) fn named(
 {
     match shape {
         Shape::Constant(_) => Ok(()),
-        Shape::Atom(term) => unless_refused(unknown_in(bytes, sig, vars, preds, term)),
+        Shape::Atom(term) => unless_refused(unknown_in(
+            bytes,
+            &Lookup::Problem(&*sig),
+            vars,
+            preds,
+            term,
+        )),
         Shape::Equation(_, _, left, right) => {
-            unless_refused(unknown_in_two(bytes, sig, vars, preds, left, right))
+            unless_refused(unknown_in_two(bytes, &Lookup::Problem(&*sig), vars, preds, left, right))
         }
         Shape::Not(body) => named(bytes, sig, vars, preds, body),
         Shape::Bind(_, name, sort, body) => {
             let num = variable_bound(bytes, sig, vars, preds, *name, *sort)?;
             vars.enter(num)?;
             named(bytes, sig, vars, preds, body)?;
-            vars.leave();
+            vars.leave()?;
             Ok(())
         }
         Shape::Bind2(_, name, sorts, body) => {
             let num = predicate_bound(bytes, sig, vars, preds, *name, sorts)?;
             preds.enter(num)?;
             named(bytes, sig, vars, preds, body)?;
-            preds.leave();
+            preds.leave()?;
             Ok(())
         }
         Shape::Binary(_, left, right) => {

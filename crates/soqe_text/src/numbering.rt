@@ -1,41 +1,43 @@
 //! The formula of a shape, with numbers for names, or the first place where a name is used wrongly.
 #![tactic(auto, unfolding(soqe_form::specs::Boxes::boxes, soqe_term::specs::Boxes::boxes))]
 
-ghost use Rattle.std.specs.Prelude.{◌≡◌, None, Some, get_or, set, IfOk, OnOk};
+ghost use Rattle.std.specs.Prelude.{◌≡◌, None, Some, IfOk, OnOk};
 ghost use Rattle.soqe_syntax.specs.Shapes.{view, term_view};
 ghost use Rattle.soqe_form.specs.declared.form.Form.{Equal};
 ghost use Rattle.soqe_text.specs.Refused.{OnRefusedAt};
-ghost use Rattle.soqe_text.specs.Uses.{binder_sort, wrong, wrong_in_atom, wrong_in_equation};
-ghost use Rattle.soqe_text.specs.Numbering.{negated, over_elements, quantified_over, joined_by, numbered_term, numbered_atom, numbered};
+ghost use Rattle.soqe_text.specs.Lookups.{names_of, places};
+ghost use Rattle.soqe_text.specs.Uses.{binder_sort_by, wrong_by, wrong_in_atom_by, wrong_in_equation_by};
+ghost use Rattle.soqe_text.specs.Numbering.{negated, over_elements, quantified_over, joined_by, numbered_term_by, numbered_atom_by, numbered_by};
 
 use crate::declaring::{sort_number, sort_numbers};
+use crate::known::{Known, put};
+use crate::lookup::Lookup;
 use crate::refused::Refused;
 use crate::spans::text;
 use crate::terms::{numbered_atom, numbered_term};
-use crate::uses::{no_sort_in, num_of, sort_at, wrong_in_atom, wrong_in_equation, wrong_sort};
+use crate::uses::{no_sort_in, num_of, wrong_in_atom, wrong_in_equation, wrong_sort};
 use soqe_form::{Form, PVar, make};
 use soqe_syntax::{Expr, Operator, Quantifier, Shape, Span};
-use soqe_term::{Mem, Signature, Sorts, Var};
+use soqe_term::{Mem, Sorts, Var};
 use sqlite_items::Boxed;
 use std::alloc::Global;
-use std::mem;
 
 /// An atom, if it is used rightly.
 fn atom(
     alloc: Global,
     bytes: &[u8],
-    sig: &Signature,
-    vars: &Vec<Option<u32>>,
-    preds: &Vec<Option<Sorts>>,
+    look: &Lookup,
+    vars: &Known<u32>,
+    preds: &Known<Sorts>,
     atom: &Expr,
 ) -> Result<Boxed<Form>, Refused>
-    ensures right { OnOk result (wrong_in_atom bytes.now sig.now vars.now.items preds.now.items (term_view atom.now) ≡ None) }
-    ensures form { IfOk result (λ f. f ≡ numbered_atom bytes.now sig.now vars.now.items (term_view atom.now)) }
-    ensures refused { OnRefusedAt result (λ at. wrong_in_atom bytes.now sig.now vars.now.items preds.now.items (term_view atom.now) ≡ Some at) }
+    ensures right { OnOk result (wrong_in_atom_by bytes.now (names_of look.now) (places vars.now) (places preds.now) (term_view atom.now) ≡ None) }
+    ensures form { IfOk result (λ f. f ≡ numbered_atom_by bytes.now (names_of look.now) (places vars.now) (term_view atom.now)) }
+    ensures refused { OnRefusedAt result (λ at. wrong_in_atom_by bytes.now (names_of look.now) (places vars.now) (places preds.now) (term_view atom.now) ≡ Some at) }
 {
-    match wrong_in_atom(bytes, sig, vars, preds, atom) {
+    match wrong_in_atom(bytes, look, vars, preds, atom) {
         Some(at) => Err(Refused::At(at)),
-        None => Ok(numbered_atom(alloc, bytes, sig, vars, atom)?),
+        None => Ok(numbered_atom(alloc, bytes, look, vars, atom)?),
     }
 }
 
@@ -54,16 +56,16 @@ fn negated(alloc: Global, is_negated: bool, f: Boxed<Form>) -> Mem<Boxed<Form>>
 fn numbered_equation(
     alloc: Global,
     bytes: &[u8],
-    sig: &Signature,
-    vars: &Vec<Option<u32>>,
+    look: &Lookup,
+    vars: &Known<u32>,
     is_negated: bool,
     left: &Expr,
     right: &Expr,
 ) -> Mem<Boxed<Form>>
-    ensures { IfOk result (λ f. f ≡ negated is_negated (Equal (numbered_term bytes.now sig.now vars.now.items (term_view left.now)) (numbered_term bytes.now sig.now vars.now.items (term_view right.now)))) }
+    ensures { IfOk result (λ f. f ≡ negated is_negated (Equal (numbered_term_by bytes.now (names_of look.now) (places vars.now) (term_view left.now)) (numbered_term_by bytes.now (names_of look.now) (places vars.now) (term_view right.now)))) }
 {
-    let left = numbered_term(alloc, bytes, sig, vars, left)?;
-    let right = numbered_term(alloc, bytes, sig, vars, right)?;
+    let left = numbered_term(alloc, bytes, look, vars, left)?;
+    let right = numbered_term(alloc, bytes, look, vars, right)?;
     let f = Boxed::new(alloc, Form::Equal(left, right))?;
     Ok(negated(alloc, is_negated, f)?)
 }
@@ -111,101 +113,73 @@ fn joined(alloc: Global, op: Operator, f: Boxed<Form>, g: Boxed<Form>) -> Mem<Bo
 }
 
 /// The sort of a binder, `obj` where none is written.
-fn binder_sort(bytes: &[u8], sig: &Signature, sort: Option<Span>) -> u32
-    ensures { result ≡ binder_sort bytes.now sig.now sort }
+fn binder_sort(bytes: &[u8], look: &Lookup, sort: Option<Span>) -> u32
+    ensures { result ≡ binder_sort_by bytes.now (names_of look.now) sort }
 {
     match sort {
-        Some(name) => sort_number(bytes, sig, name),
+        Some(name) => sort_number(bytes, look, name),
         None => 0,
-    }
-}
-
-/// Gives a variable a sort at its number, or none, and answers what it had.
-#[tactic(auto, using(crate::proofs::Bindings::set_beyond))]
-fn put_sort(vars: &mut Vec<Option<u32>>, num: u64, sort: Option<u32>) -> Option<u32>
-    ensures old { result ≡ get_or vars.old.items num None }
-    ensures new { vars.new.items ≡ set vars.old.items num sort }
-{
-    let outer = sort_at(vars, num);
-    let place = num as usize;
-    if place < vars.len() {
-        vars[place] = sort;
-    }
-    outer
-}
-
-/// Gives a bound predicate argument sorts at its number, or none, and answers what it had.
-#[tactic(auto, using(crate::proofs::Bindings::set_beyond, crate::proofs::Bindings::get_beyond))]
-fn put_sorts(preds: &mut Vec<Option<Sorts>>, num: u64, sorts: Option<Sorts>) -> Option<Sorts>
-    ensures old { result ≡ get_or preds.old.items num None }
-    ensures new { preds.new.items ≡ set preds.old.items num sorts }
-{
-    let place = num as usize;
-    if place < preds.len() {
-        mem::replace(&mut preds[place], sorts)
-    } else {
-        None
     }
 }
 
 /// The formula of a shape, with numbers for its names. The error is the first wrong use of a name, after which nothing is
 /// known of the sorts at the place.
-#[tactic(auto, using(crate::proofs::Bindings::restored), unfolding(soqe_form::specs::Boxes::boxes, soqe_term::specs::Boxes::boxes))]
+#[tactic(auto, using(crate::proofs::Lookups::taken_back), unfolding(soqe_form::specs::Boxes::boxes, soqe_term::specs::Boxes::boxes))]
 pub(crate) fn numbered(
     alloc: Global,
     bytes: &[u8],
-    sig: &Signature,
-    vars: &mut Vec<Option<u32>>,
-    preds: &mut Vec<Option<Sorts>>,
+    look: &Lookup,
+    vars: &mut Known<u32>,
+    preds: &mut Known<Sorts>,
     shape: &Shape,
 ) -> Result<Boxed<Form>, Refused>
-    ensures right { OnOk result (wrong bytes.now sig.now vars.old.items preds.old.items (view shape.now) ≡ None) }
-    ensures form { IfOk result (λ f. f ≡ numbered bytes.now sig.now vars.old.items (view shape.now)) }
-    ensures vars { OnOk result (vars.new.items ≡ vars.old.items) }
-    ensures preds { OnOk result (preds.new.items ≡ preds.old.items) }
-    ensures refused { OnRefusedAt result (λ at. wrong bytes.now sig.now vars.old.items preds.old.items (view shape.now) ≡ Some at) }
+    ensures right { OnOk result (wrong_by bytes.now (names_of look.now) (places vars.old) (places preds.old) (view shape.now) ≡ None) }
+    ensures form { IfOk result (λ f. f ≡ numbered_by bytes.now (names_of look.now) (places vars.old) (view shape.now)) }
+    ensures vars { OnOk result (places vars.new ≡ places vars.old) }
+    ensures preds { OnOk result (places preds.new ≡ places preds.old) }
+    ensures refused { OnRefusedAt result (λ at. wrong_by bytes.now (names_of look.now) (places vars.old) (places preds.old) (view shape.now) ≡ Some at) }
 {
     match shape {
         Shape::Constant(value) => Ok(make::constant(alloc, *value)?),
-        Shape::Atom(expr) => atom(alloc, bytes, sig, vars, preds, expr),
+        Shape::Atom(expr) => atom(alloc, bytes, look, vars, preds, expr),
         Shape::Equation(is_negated, at, left, right) => {
-            match wrong_in_equation(bytes, sig, vars, *at, left, right) {
+            match wrong_in_equation(bytes, look, vars, *at, left, right) {
                 Some(at) => Err(Refused::At(at)),
-                None => Ok(numbered_equation(alloc, bytes, sig, vars, *is_negated, left, right)?),
+                None => Ok(numbered_equation(alloc, bytes, look, vars, *is_negated, left, right)?),
             }
         }
         Shape::Not(body) => {
-            let f = numbered(alloc, bytes, sig, vars, preds, body)?;
+            let f = numbered(alloc, bytes, look, vars, preds, body)?;
             Ok(make::negation(alloc, f)?)
         }
-        Shape::Bind(quantifier, name, sort, body) => match wrong_sort(bytes, sig, *sort) {
+        Shape::Bind(quantifier, name, sort, body) => match wrong_sort(bytes, look, *sort) {
             Some(at) => Err(Refused::At(at)),
             None => {
-                let num = num_of(sig, text(bytes, *name));
-                let sort = binder_sort(bytes, sig, *sort);
-                let outer = put_sort(vars, num, Some(sort));
-                let f = numbered(alloc, bytes, sig, vars, preds, body)?;
-                put_sort(vars, num, outer);
+                let num = num_of(look, text(bytes, *name));
+                let sort = binder_sort(bytes, look, *sort);
+                let outer = put(vars, num, Some(sort))?;
+                let f = numbered(alloc, bytes, look, vars, preds, body)?;
+                put(vars, num, outer)?;
                 Ok(over_elements(alloc, *quantifier, Var { num, sort }, f)?)
             }
         },
-        Shape::Bind2(quantifier, name, names, body) => match no_sort_in(bytes, sig, names) {
+        Shape::Bind2(quantifier, name, names, body) => match no_sort_in(bytes, look, names) {
             Some(at) => Err(Refused::At(at)),
             None => {
-                let num = num_of(sig, text(bytes, *name));
-                let args = sort_numbers(alloc, bytes, sig, names)?;
+                let num = num_of(look, text(bytes, *name));
+                let args = sort_numbers(alloc, bytes, look, names)?;
                 let bound = args.copy(alloc)?;
-                let outer = put_sorts(preds, num, Some(bound));
-                let f = numbered(alloc, bytes, sig, vars, preds, body)?;
-                put_sorts(preds, num, outer);
+                let outer = put(preds, num, Some(bound))?;
+                let f = numbered(alloc, bytes, look, vars, preds, body)?;
+                put(preds, num, outer)?;
                 Ok(quantified_over(alloc, *quantifier, PVar { num, args }, f)?)
             }
         },
         Shape::Binary(op, left, right) => {
-            let f = numbered(alloc, bytes, sig, vars, preds, left)?;
-            let g = numbered(alloc, bytes, sig, vars, preds, right)?;
+            let f = numbered(alloc, bytes, look, vars, preds, left)?;
+            let g = numbered(alloc, bytes, look, vars, preds, right)?;
             Ok(joined(alloc, *op, f, g)?)
         }
-        Shape::Paren(body) => numbered(alloc, bytes, sig, vars, preds, body),
+        Shape::Paren(body) => numbered(alloc, bytes, look, vars, preds, body),
     }
 }

@@ -1,14 +1,15 @@
 //! All problems: from the bytes of a text to a problem with numbers, or to the place where the text is refused.
-ghost use Rattle.std.specs.Prelude.{◌≡◌, ◌<◌, ◌^◌, length, Ok, Err, None, Some, IfOk, OnOk};
+ghost use Rattle.std.specs.Prelude.{◌≡◌, ◌<◌, ◌^◌, [], length, Ok, Err, None, Some, IfOk, OnOk};
 ghost use Rattle.soqe_parse.specs.Faults.{IsFaultAt};
 ghost use Rattle.soqe_parse.specs.ProblemShapes.{problem_view};
-ghost use Rattle.soqe_syntax.specs.Shapes.{declared_view};
+ghost use Rattle.soqe_syntax.specs.Shapes.{declared_view, view};
 ghost use Rattle.soqe_syntax.specs.Pieces.{HasProblem};
 ghost use Rattle.soqe_term.specs.declared.kinds.NameKind.TheVariants as numbering;
 ghost use Rattle.soqe_term.specs.Declarations.{count_of, free_sort_of};
 ghost use Rattle.soqe_text.specs.Lexing.{OnTextSyntax};
-ghost use Rattle.soqe_text.specs.Naming.{named_problem};
-ghost use Rattle.soqe_text.specs.Uses.{no_sort, no_sort_in, wrong_in_one, wrong_in_declared, wrong_in_problem, free_sorts, no_sorts};
+ghost use Rattle.soqe_text.specs.Naming.{named, named_problem};
+ghost use Rattle.soqe_text.specs.Lookups.{names_of};
+ghost use Rattle.soqe_text.specs.Uses.{no_sort_by, no_sort_in_by, wrong_in_one, wrong_in_declared, wrong_in_problem, free_sorts, no_sorts};
 ghost use Rattle.soqe_text.specs.Numbering.{numbered};
 ghost use Rattle.soqe_text.specs.Refused.{OnRefusedAt};
 ghost use Rattle.soqe_text.specs.Sorted.{IsSorted};
@@ -18,7 +19,9 @@ ghost use Rattle.std.specs.Option.{option_or};
 
 use crate::Problem;
 use crate::declaring::declare_all;
+use crate::known::Known;
 use crate::lexing::TextFault;
+use crate::lookup::Lookup;
 use crate::naming::named;
 use crate::numbering::numbered;
 use crate::refused::Refused;
@@ -26,7 +29,7 @@ use crate::scope::Scope;
 use crate::uses::{no_sort, no_sort_in};
 use soqe_form::Form;
 use soqe_parse::{ProblemShape, ShapeError, read_problem_shape};
-use soqe_syntax::{Item, Span, Spans};
+use soqe_syntax::{Item, Shape, Span, Spans};
 use soqe_term::{Mem, NameKind, Signature, Sorts};
 use sqlite_items::Boxed;
 use std::alloc::Global;
@@ -44,19 +47,27 @@ fn named_problem(alloc: Global, bytes: &[u8], shape: &ProblemShape) -> Result<Si
 {
     let mut sig = Signature::new(alloc)?;
     declare_all(alloc, bytes, &mut sig, shape.declared.as_slice())?;
-    let mut vars = Scope::new(alloc);
-    let mut preds = Scope::new(alloc);
-    named(bytes, &mut sig, &mut vars, &mut preds, &shape.goal)?;
+    named_goal(alloc, bytes, &mut sig, &shape.goal)?;
     Ok(sig)
 }
 
-/// The first name of a function's sorts that is no sort's.
-fn wrong_in_fun(bytes: &[u8], sig: &Signature, sorts: &Spans, value: Span) -> Option<u64>
-    ensures { result ≡ option_or (no_sort_in bytes.now sig.now sorts.now) (no_sort bytes.now sig.now value) }
+/// The names of a goal, where nothing is bound round it. The error is its first refused name.
+fn named_goal(alloc: Global, bytes: &[u8], sig: &mut Signature, goal: &Shape) -> Result<(), Refused>
+    ensures ok { OnOk result (named bytes.now sig.old [] [] (view goal.now) ≡ Ok sig.new) }
+    ensures refused { OnRefusedAt result (λ at. named bytes.now sig.old [] [] (view goal.now) ≡ Err at) }
 {
-    match no_sort_in(bytes, sig, sorts) {
+    let mut vars = Scope::new(alloc);
+    let mut preds = Scope::new(alloc);
+    named(bytes, sig, &mut vars, &mut preds, goal)
+}
+
+/// The first name of a function's sorts that is no sort's.
+fn wrong_in_fun(bytes: &[u8], look: &Lookup, sorts: &Spans, value: Span) -> Option<u64>
+    ensures { result ≡ option_or (no_sort_in_by bytes.now (names_of look.now) sorts.now) (no_sort_by bytes.now (names_of look.now) value) }
+{
+    match no_sort_in(bytes, look, sorts) {
         Some(at) => Some(at),
-        None => no_sort(bytes, sig, value),
+        None => no_sort(bytes, look, value),
     }
 }
 
@@ -64,11 +75,12 @@ fn wrong_in_fun(bytes: &[u8], sig: &Signature, sorts: &Spans, value: Span) -> Op
 fn wrong_in_one(bytes: &[u8], sig: &Signature, item: &Item) -> Option<u64>
     ensures { result ≡ wrong_in_one bytes.now sig.now (declared_view item.now) }
 {
+    let look = Lookup::Problem(sig);
     match item {
         Item::Sort(_) => None,
-        Item::Fun(_, sorts, value) => wrong_in_fun(bytes, sig, sorts, *value),
-        Item::Pred(_, sorts) => no_sort_in(bytes, sig, sorts),
-        Item::Var(_, sort) => no_sort(bytes, sig, *sort),
+        Item::Fun(_, sorts, value) => wrong_in_fun(bytes, &look, sorts, *value),
+        Item::Pred(_, sorts) => no_sort_in(bytes, &look, sorts),
+        Item::Var(_, sort) => no_sort(bytes, &look, *sort),
     }
 }
 
@@ -111,6 +123,7 @@ fn no_sorts(alloc: Global, sig: &Signature) -> Mem<Vec<Option<Sorts>>>
 }
 
 /// The goal of a problem whose names are known. The error is the first wrong use of a name.
+#[tactic(auto, using(crate::proofs::SameNames::wrong_listed, crate::proofs::SameNames::numbered_listed))]
 fn goal(
     alloc: Global,
     bytes: &[u8],
@@ -122,9 +135,16 @@ fn goal(
     ensures refused { OnRefusedAt result (λ at. wrong_in_problem bytes.now sig.now (problem_view shape.now) ≡ Some at) }
 {
     check_declared(bytes, sig, shape.declared.as_slice())?;
-    let mut vars = free_sorts(alloc, sig)?;
-    let mut preds = no_sorts(alloc, sig)?;
-    numbered(alloc, bytes, sig, &mut vars, &mut preds, &shape.goal)
+    let mut vars = Known::Listed(free_sorts(alloc, sig)?);
+    let mut preds = Known::Listed(no_sorts(alloc, sig)?);
+    numbered(
+        alloc,
+        bytes,
+        &Lookup::Problem(sig),
+        &mut vars,
+        &mut preds,
+        &shape.goal,
+    )
 }
 
 /// The problem of a shape.

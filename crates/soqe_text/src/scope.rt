@@ -1,28 +1,34 @@
 //! The numbers of the variables that are bound round a place.
-ghost use Rattle.std.specs.Prelude.{◌≡◌, ◌<◌, ◌+◌, ◌-◌, ◌∷◌, [], ◌++◌, eqb, length, drop, set, get_or, replicate, IfOk, OnOk, OnErr};
+ghost use Rattle.std.specs.Prelude.{◌≡◌, ◌+◌, ◌-◌, ◌∷◌, [], eqb, drop, IfOk, OnOk};
 ghost use Rattle.std.specs.List.{list_any};
+ghost use Rattle.std.specs.Option.{unwrap_or};
+ghost use Rattle.soqe_text.specs.Lookups.{entered};
 
+use crate::known::{mapped, put_mapped};
+use indexmap::IndexMap;
 use soqe_term::Mem;
 use std::alloc::{AllocError, Global};
 use std::marker::Model;
 
-/// The numbers in scope. Contracts see their list, the innermost first.
+/// The numbers in scope. Contracts see their list, the innermost first. Its memory grows with the numbers that were met,
+/// whatever these are.
 #[derive(Drop)]
 pub(crate) struct Scope {
-    entered: Vec<u64>,
-    /// For each number, how often it is in scope.
-    counts: Vec<u64>,
+    numbers: Vec<u64>,
+    /// For each number that was met, how often it is in scope.
+    counts: IndexMap<u64, Option<u64>>,
 }
 
 impl Model for Scope {
     ghost use Rattle.std.specs.Prelude.{List, ℕ, reverse};
+    ghost use Rattle.soqe_text.specs.Lookups.{entered};
     ghost use Rattle.soqe_text.specs.Scope.{IsCounted};
 
     ghost Value = { List ℕ };
 
-    ghost view = { λ s. reverse s.entered.items };
+    ghost view = { λ s. reverse s.numbers.items };
 
-    ghost invariant = { λ s. IsCounted s.counts.items (reverse s.entered.items) };
+    ghost invariant = { λ s. IsCounted (entered s.counts.entries) (reverse s.numbers.items) };
 }
 
 impl Scope {
@@ -31,8 +37,8 @@ impl Scope {
         ensures { result ≡ [] }
     {
         Scope {
-            entered: Vec::new(alloc),
-            counts: Vec::new(alloc),
+            numbers: Vec::new(alloc),
+            counts: IndexMap::new(alloc),
         }
     }
 
@@ -47,37 +53,48 @@ impl Scope {
     pub fn enter(&mut self, num: u64) -> Mem<()>
         ensures { OnOk result (self.new ≡ num ∷ self.old) }
     {
-        make_room(&mut self.counts, num)?;
         let count = one_more(&self.counts, num)?;
-        self.entered.push(num)?;
-        put(&mut self.counts, num, count);
-        Ok(())
+        let len = self.numbers.len();
+        self.numbers.push(num)?;
+        match put_mapped(&mut self.counts, num, Some(count)) {
+            Ok(_) => Ok(()),
+            Err(_) => {
+                self.numbers.truncate(len);
+                Err(AllocError)
+            }
+        }
     }
 
     /// Ends the scope of the number that came in last.
-    pub fn leave(&mut self)
-        ensures { self.new ≡ drop 1 self.old }
+    pub fn leave(&mut self) -> Mem<()>
+        ensures { OnOk result (self.new ≡ drop 1 self.old) }
     {
-        if let Some(num) = self.entered.pop() {
-            let count = one_less(&self.counts, num);
-            put(&mut self.counts, num, count);
+        match self.numbers.last() {
+            None => Ok(()),
+            Some(num) => {
+                let num = *num;
+                let count = one_less(&self.counts, num);
+                put_mapped(&mut self.counts, num, Some(count))?;
+                self.numbers.pop();
+                Ok(())
+            }
         }
     }
 }
 
 /// The count of a number.
-fn count_of(counts: &Vec<u64>, num: u64) -> u64
-    ensures { result ≡ get_or counts.now.items num 0 }
+fn count_of(counts: &IndexMap<u64, Option<u64>>, num: u64) -> u64
+    ensures { result ≡ unwrap_or (entered counts.now.entries num) 0 }
 {
-    match counts.get(num as usize) {
+    match mapped(counts, num) {
         Some(count) => *count,
         None => 0,
     }
 }
 
 /// The count of a number, and 1. No memory holds more numbers than can be counted.
-fn one_more(counts: &Vec<u64>, num: u64) -> Mem<u64>
-    ensures { IfOk result (λ n. n ≡ get_or counts.now.items num 0 + 1) }
+fn one_more(counts: &IndexMap<u64, Option<u64>>, num: u64) -> Mem<u64>
+    ensures { IfOk result (λ n. n ≡ unwrap_or (entered counts.now.entries num) 0 + 1) }
 {
     match count_of(counts, num).checked_add(1) {
         Some(count) => Ok(count),
@@ -86,31 +103,8 @@ fn one_more(counts: &Vec<u64>, num: u64) -> Mem<u64>
 }
 
 /// The count of a number, less 1.
-fn one_less(counts: &Vec<u64>, num: u64) -> u64
-    ensures { result ≡ get_or counts.now.items num 0 - 1 }
+fn one_less(counts: &IndexMap<u64, Option<u64>>, num: u64) -> u64
+    ensures { result ≡ unwrap_or (entered counts.now.entries num) 0 - 1 }
 {
     count_of(counts, num).saturating_sub(1)
-}
-
-/// Writes the count of a number.
-fn put(counts: &mut Vec<u64>, num: u64, count: u64)
-    requires { num < length counts.old.items }
-    ensures { counts.new.items ≡ set counts.old.items num count }
-{
-    counts[num as usize] = count;
-}
-
-/// Adds counts of 0 until a number has one. No memory holds the counts of all numbers.
-fn make_room(counts: &mut Vec<u64>, num: u64) -> Mem<()>
-    ensures room { OnOk result (num < length counts.new.items) }
-    ensures ok { OnOk result (counts.new.items ≡ counts.old.items ++ replicate (num + 1 - length counts.old.items) 0) }
-    ensures err { OnErr result (counts.new.items ≡ counts.old.items) }
-{
-    let Some(len) = num.checked_add(1) else {
-        return Err(AllocError);
-    };
-    if counts.len() < len as usize {
-        counts.resize(len as usize, 0)?;
-    }
-    Ok(())
 }

@@ -5,5 +5,5 @@ use Rattle.soqe_text.proofs.scope.Scope.has.Goals as goal
 
 pub returns : goal.returns
 returns c =
-    ap (nat_lt 0) (c.count_of.ensures ∙ c.self.invariant c.args.num) ∙ sym (any_times c.args.num (reverse c.self.inside.entered.items))
+    ap (nat_lt 0) (c.count_of.ensures ∙ c.self.invariant c.args.num) ∙ sym (any_times c.args.num (reverse c.self.inside.numbers.items))
     ∙ ap (list_any (λ n. eqb n c.args.num)) c.self.view_is

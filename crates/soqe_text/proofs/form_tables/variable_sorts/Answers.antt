@@ -1,0 +1,8 @@
+use Rattle.std.proofs.Common.{◌∙◌, ap, sym}
+use Rattle.soqe_form.specs.Scope.{sort_among}
+use Rattle.soqe_text.specs.Lookups.{ByNumber, entered}
+use Rattle.soqe_text.proofs.Fronts.{entered_none, none_before}
+use Rattle.soqe_text.proofs.form_tables.variable_sorts.Goals as goal
+
+pub loop-n-init : goal.loop-n-init
+loop-n-init c = ap ByNumber (ap entered c.new.ensures.empty ∙ entered_none ∙ sym (ap sort_among (none_before c.args.free.now)))
