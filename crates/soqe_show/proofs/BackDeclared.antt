@@ -1,18 +1,44 @@
--- The declarations that are printed are those that were read.
-use Rattle.std.proofs.Common.{◌≡◌, true, ◌&&◌, List, [], ◌∷◌, ◌++◌, map, Option, Some, None, refl, ◌∙◌, ap, sym, append-nil, true≢false}
+-- Declarations of texts are used rightly as those over places are; those that are printed are those that were read.
+use Rattle.std.proofs.Common.{◌≡◌, ℕ, Bool, true, ◌&&◌, List, [], ◌∷◌, ◌++◌, map, Option, Some, None, is_none, refl, ◌∙◌, ap, sym, append-nil, true≢false}
 use Rattle.std.specs.List.{list_all}
 use Rattle.soqe_lex.specs.Lexical.{is_keyword}
+use Rattle.soqe_syntax.specs.declared.piece.Span.{Span}
 use Rattle.soqe_syntax.specs.Grammar.{Tree, Declared, DeclaredSort, DeclaredFun, DeclaredPred, DeclaredVar}
 use Rattle.soqe_term.proofs.Choices.{and_first, and_second}
 use Rattle.soqe_term.specs.Declarations.{Declaration, Found, lookup}
+use Rattle.soqe_text.specs.Meanings.{problem_names}
 use Rattle.soqe_text.specs.NewNames.{first_declared}
 use Rattle.soqe_text.specs.Naming.{is_usable, sort_of_found}
+use Rattle.soqe_text.specs.Uses.{no_sort_in, no_sort, wrong_in_one, wrong_in_declared}
 use Rattle.soqe_show.specs.Printed.{Text}
+use Rattle.soqe_show.specs.Placed.{texts_declared}
 use Rattle.soqe_show.specs.Dress.{sort_name, dress_declared, dress_all_declared, behind_obj}
-use Rattle.soqe_show.proofs.BackNames.{number_of, is_known, name_of_declared, kind_of_declared, known_declared, Named, NamedDeclared, AllNamedDeclared}
-use Rattle.soqe_show.proofs.BackUses.{is_sort, right_one}
+use Rattle.soqe_show.proofs.BackKnown.{number_of, is_known, none_or}
+use Rattle.soqe_show.proofs.BackNames.{name_of_declared, kind_of_declared, known_declared, Named, NamedDeclared, AllNamedDeclared}
+use Rattle.soqe_show.proofs.BackUses.{is_sort, sorts_is, one_sort_is}
 use Rattle.soqe_show.proofs.BackLookups.{Grows, Adds, adds_none, adds_both, adds_ordinary, are_ordinary, named_adds, named_grows, declared_grows, all_declared_grows, new_unknown}
 use Rattle.soqe_show.proofs.BackDressed.{sort_named}
+
+-- each sort of a declaration is one
+abbrev pub right_one : List Declaration → Declared Text → Bool
+right_one ds (DeclaredSort s) = true
+right_one ds (DeclaredFun f ss r) = list_all (is_sort ds) ss && is_sort ds r
+right_one ds (DeclaredPred p ss) = list_all (is_sort ds) ss
+right_one ds (DeclaredVar x s) = is_sort ds s
+
+one_is : (bytes : List ℕ) (ds : List Declaration) (d : Declared Span) → is_none (wrong_in_one bytes ds d) ≡ right_one ds (texts_declared bytes d)
+one_is bytes ds (DeclaredSort s) = refl
+one_is bytes ds (DeclaredFun f ss r) =
+    none_or (no_sort_in bytes ds ss) (no_sort bytes ds r) ∙ (λ i. sorts_is bytes (problem_names ds) ss i && one_sort_is bytes (problem_names ds) r i)
+one_is bytes ds (DeclaredPred p ss) = sorts_is bytes (problem_names ds) ss
+one_is bytes ds (DeclaredVar x s) = one_sort_is bytes (problem_names ds) s
+
+-- declarations are used rightly as their texts are
+pub declared_is : (bytes : List ℕ) (ds : List Declaration) (all : List (Declared Span))
+    → is_none (wrong_in_declared bytes ds all) ≡ list_all (right_one ds) (map (texts_declared bytes) all)
+declared_is bytes ds [] = refl
+declared_is bytes ds (d ∷ more) =
+    none_or (wrong_in_one bytes ds d) (wrong_in_declared bytes ds more) ∙ (λ i. one_is bytes ds d i && declared_is bytes ds more i)
 
 -- a sort that is known has one number in earlier and later declarations
 number_kept : (ds fs : List Declaration) (s : Text) → Grows ds fs → is_known ds [] [] s ≡ true → number_of ds s ≡ number_of fs s

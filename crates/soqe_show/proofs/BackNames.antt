@@ -1,37 +1,18 @@
 -- Which names are known in a tree of texts, and what it declares; a tree over places says what its texts say.
-use Rattle.std.proofs.Common.{◌≡◌, ℕ, Bool, true, false, cond, not, ◌&&◌, List, [], ◌∷◌, map, find, Option, Some, None, Result, Ok, Err, is_none, refl, ◌∙◌, ap, sym, subst}
+use Rattle.std.proofs.Common.{◌≡◌, ℕ, Bool, true, false, cond, ◌&&◌, List, [], ◌∷◌, map, Option, Some, None, Result, Ok, Err, is_none, refl, ◌∙◌, ap, sym, subst}
 use Rattle.std.specs.List.{list_all}
 use Rattle.std.specs.Option.{option_or}
 use Rattle.soqe_syntax.specs.declared.piece.Span.{Span}
-use Rattle.soqe_syntax.specs.Grammar.{Term, Plain, Applied, Terms, One, More, Tree, Constant, Atom, Equation, Not, Bind, Bind2, Binary, Paren, Declared, DeclaredSort, DeclaredFun, DeclaredPred, DeclaredVar}
+use Rattle.soqe_syntax.specs.Grammar.{Tree, Constant, Atom, Equation, Not, Bind, Bind2, Binary, Paren, Declared, DeclaredSort, DeclaredFun, DeclaredPred, DeclaredVar}
 use Rattle.soqe_syntax.specs.Pieces.{text_at}
 use Rattle.soqe_term.specs.declared.kinds.Kind.{Kind}
 use Rattle.soqe_term.specs.declared.kinds.Kind.TheVariants as kind
 use Rattle.soqe_term.specs.Declarations.{Declaration, lookup}
 use Rattle.soqe_text.specs.NewNames.{is_new, with_declared, Entered}
-use Rattle.soqe_text.specs.Naming.{unless_refused, then_named, is_usable, start_of, unknown_of, unknown_name, unknown_in, unknown_in_all, variable_entered, predicate_entered, or_refused, unknown_sort, variable_bound, predicate_bound, named, sort_of_found, sort_number, sort_numbers, name_declared, unknown_in_declared, kind_declared, named_declared, all_named_declared}
+use Rattle.soqe_text.specs.Naming.{unless_refused, then_named, unknown_of, unknown_name, unknown_in, variable_entered, predicate_entered, or_refused, unknown_sort, variable_bound, predicate_bound, named, sort_number, name_declared, unknown_in_declared, kind_declared, named_declared, all_named_declared}
 use Rattle.soqe_show.specs.Printed.{Text}
-use Rattle.soqe_show.specs.Placed.{texts_term, texts_terms, texts_sort, texts, texts_declared}
-
--- a name may be used
-abbrev pub is_known : List Declaration → List ℕ → List ℕ → Text → Bool
-is_known ds vs ps x = is_usable vs ps (lookup ds x)
-
-abbrev mutual
-  -- each name of a term is known
-  pub known_in : List Declaration → List ℕ → List ℕ → Term Text → Bool
-  known_in ds vs ps (Plain x) = is_known ds vs ps x
-  known_in ds vs ps (Applied x ts) = is_known ds vs ps x && known_in_all ds vs ps ts
-
-  -- each name of terms is known
-  pub known_in_all : List Declaration → List ℕ → List ℕ → Terms Text → Bool
-  known_in_all ds vs ps (One t) = known_in ds vs ps t
-  known_in_all ds vs ps (More ts t) = known_in_all ds vs ps ts && known_in ds vs ps t
-
--- the sort of a binder is known, where one is written
-abbrev pub sort_known : List Declaration → List ℕ → List ℕ → Option Text → Bool
-sort_known ds vs ps None = true
-sort_known ds vs ps (Some s) = is_known ds vs ps s
+use Rattle.soqe_show.specs.Placed.{texts, texts_declared}
+use Rattle.soqe_show.proofs.BackKnown.{is_known, known_in, sort_known, number_of, none_unless, from_none, none_or, known_term, known_sides, known_names, known_sort, numbers_of}
 
 -- All names of a tree are known, and behind it stand the declarations new.
 abbrev pub Named : List Declaration → List ℕ → List ℕ → Tree Text → List Declaration → Type 0
@@ -52,10 +33,6 @@ name_of_declared (DeclaredSort s) = s
 name_of_declared (DeclaredFun f ss r) = f
 name_of_declared (DeclaredPred p ss) = p
 name_of_declared (DeclaredVar x s) = x
-
--- the number of a sort by its name
-abbrev pub number_of : List Declaration → Text → ℕ
-number_of ds s = sort_of_found (lookup ds s)
 
 -- what a declared name stands for
 abbrev pub kind_of_declared : List Declaration → Declared Text → Kind
@@ -81,51 +58,6 @@ pub record NamedDeclared (ds : List Declaration) (d : Declared Text) (new : List
 abbrev pub AllNamedDeclared : List Declaration → List (Declared Text) → List Declaration → Type 0
 AllNamedDeclared ds [] new = ds ≡ new
 AllNamedDeclared ds (d ∷ more) new = (middle : List Declaration) × NamedDeclared ds d middle × AllNamedDeclared middle more new
-
-pub none_or : (a b : Option ℕ) → is_none (option_or a b) ≡ (is_none a && is_none b)
-none_or None b = refl
-none_or (Some n) b = refl
-
-pub from_none : (o : Option ℕ) → is_none o ≡ true → o ≡ None
-from_none None h = refl
-from_none (Some n) h = cc
-
-none_unless : (b : Bool) (n : ℕ) → is_none (cond (not b) (Some n) None) ≡ b
-none_unless true n = refl
-none_unless false n = refl
-
-mutual
-  known_term : (bytes : List ℕ) (ds : List Declaration) (vs ps : List ℕ) (t : Term Span) → is_none (unknown_in bytes ds vs ps t) ≡ known_in ds vs ps (texts_term bytes t)
-  known_term bytes ds vs ps (Plain x) = none_unless (is_known ds vs ps (text_at bytes x)) x.start
-  known_term bytes ds vs ps (Applied x ts) =
-      none_or (unknown_name bytes ds vs ps x) (unknown_in_all bytes ds vs ps ts)
-      ∙ (λ i. none_unless (is_known ds vs ps (text_at bytes x)) x.start i && known_terms bytes ds vs ps ts i)
-
-  known_terms : (bytes : List ℕ) (ds : List Declaration) (vs ps : List ℕ) (ts : Terms Span) → is_none (unknown_in_all bytes ds vs ps ts) ≡ known_in_all ds vs ps (texts_terms bytes ts)
-  known_terms bytes ds vs ps (One t) = known_term bytes ds vs ps t
-  known_terms bytes ds vs ps (More ts t) =
-      none_or (unknown_in_all bytes ds vs ps ts) (unknown_in bytes ds vs ps t)
-      ∙ (λ i. known_terms bytes ds vs ps ts i && known_term bytes ds vs ps t i)
-
-known_sides : (bytes : List ℕ) (ds : List Declaration) (vs ps : List ℕ) (l r : Term Span)
-    → is_none (option_or (unknown_in bytes ds vs ps l) (unknown_in bytes ds vs ps r)) ≡ (known_in ds vs ps (texts_term bytes l) && known_in ds vs ps (texts_term bytes r))
-known_sides bytes ds vs ps l r =
-    none_or (unknown_in bytes ds vs ps l) (unknown_in bytes ds vs ps r) ∙ (λ i. known_term bytes ds vs ps l i && known_term bytes ds vs ps r i)
-
-known_names : (bytes : List ℕ) (ds : List Declaration) (vs ps : List ℕ) (xs : List Span)
-    → is_none (unknown_of bytes ds vs ps xs) ≡ list_all (is_known ds vs ps) (map (text_at bytes) xs)
-known_names bytes ds vs ps [] = refl
-known_names bytes ds vs ps (x ∷ xs) = by (is_known ds vs ps (text_at bytes x)) (known_names bytes ds vs ps xs)
-  where
-    by : (b : Bool) → is_none (unknown_of bytes ds vs ps xs) ≡ list_all (is_known ds vs ps) (map (text_at bytes) xs)
-        → is_none (start_of (cond (not b) (Some x) (find (λ x. not (is_known ds vs ps (text_at bytes x))) xs))) ≡ (b && list_all (is_known ds vs ps) (map (text_at bytes) xs))
-    by true h = h
-    by false h = refl
-
-known_sort : (bytes : List ℕ) (ds : List Declaration) (vs ps : List ℕ) (s : Option Span)
-    → is_none (unknown_sort bytes ds vs ps s) ≡ sort_known ds vs ps (texts_sort bytes s)
-known_sort bytes ds vs ps None = refl
-known_sort bytes ds vs ps (Some s) = none_unless (is_known ds vs ps (text_at bytes s)) s.start
 
 -- names that are known
 abbrev accepted : {A : Type 0} → A → Result A ℕ
@@ -168,21 +100,21 @@ pub named_texts : (bytes : List ℕ) (ds : List Declaration) (vs ps : List ℕ) 
 named_texts bytes ds vs ps (Constant b) new h = ok-is ds new h
 named_texts bytes ds vs ps (Atom t) new h =
     let r = unless_ok (unknown_in bytes ds vs ps t) ds new h in
-    (sym (known_term bytes ds vs ps t) ∙ r.0, r.1)
+    (sym (known_term bytes (lookup ds) vs ps t) ∙ r.0, r.1)
 named_texts bytes ds vs ps (Equation b at l r) new h =
     let k = unless_ok (option_or (unknown_in bytes ds vs ps l) (unknown_in bytes ds vs ps r)) ds new h in
-    (sym (known_sides bytes ds vs ps l r) ∙ k.0, k.1)
+    (sym (known_sides bytes (lookup ds) vs ps l r) ∙ k.0, k.1)
 named_texts bytes ds vs ps (Not a) new h = named_texts bytes ds vs ps a new h
 named_texts bytes ds vs ps (Bind q x s a) new h =
     let first = then_ok (variable_bound bytes ds vs ps x s) (λ e. named bytes e.declared (e.num ∷ vs) ps a) new h in
     let e = first.0 in
     let b = binder_ok (variable_entered ds (text_at bytes x)) x.start (λ e. unknown_sort bytes e.declared vs ps s) e first.1 in
-    (e, b.0, sym (known_sort bytes e.declared vs ps s) ∙ b.1, named_texts bytes e.declared (e.num ∷ vs) ps a new first.2)
+    (e, b.0, sym (known_sort bytes (lookup e.declared) vs ps s) ∙ b.1, named_texts bytes e.declared (e.num ∷ vs) ps a new first.2)
 named_texts bytes ds vs ps (Bind2 q p ss a) new h =
     let first = then_ok (predicate_bound bytes ds vs ps p ss) (λ e. named bytes e.declared vs (e.num ∷ ps) a) new h in
     let e = first.0 in
     let b = binder_ok (predicate_entered ds (text_at bytes p)) p.start (λ e. unknown_of bytes e.declared vs ps ss) e first.1 in
-    (e, b.0, sym (known_names bytes e.declared vs ps ss) ∙ b.1, named_texts bytes e.declared vs (e.num ∷ ps) a new first.2)
+    (e, b.0, sym (known_names bytes (lookup e.declared) vs ps ss) ∙ b.1, named_texts bytes e.declared vs (e.num ∷ ps) a new first.2)
 named_texts bytes ds vs ps (Binary op l r) new h =
     let first = then_ok (named bytes ds vs ps l) (λ ds. named bytes ds vs ps r) new h in
     (first.0, named_texts bytes ds vs ps l first.0 first.1, named_texts bytes first.0 vs ps r new first.2)
@@ -193,32 +125,28 @@ pub texts_named : (bytes : List ℕ) (ds : List Declaration) (vs ps : List ℕ) 
     → Named ds vs ps (texts bytes t) new → named bytes ds vs ps t ≡ Ok new
 texts_named bytes ds vs ps (Constant b) new h = ap accepted h
 texts_named bytes ds vs ps (Atom t) new h =
-    ap (λ o. unless_refused o ds) (from_none (unknown_in bytes ds vs ps t) (known_term bytes ds vs ps t ∙ h.0)) ∙ ap accepted h.1
+    ap (λ o. unless_refused o ds) (from_none (unknown_in bytes ds vs ps t) (known_term bytes (lookup ds) vs ps t ∙ h.0)) ∙ ap accepted h.1
 texts_named bytes ds vs ps (Equation b at l r) new h =
-    ap (λ o. unless_refused o ds) (from_none (option_or (unknown_in bytes ds vs ps l) (unknown_in bytes ds vs ps r)) (known_sides bytes ds vs ps l r ∙ h.0)) ∙ ap accepted h.1
+    ap (λ o. unless_refused o ds) (from_none (option_or (unknown_in bytes ds vs ps l) (unknown_in bytes ds vs ps r)) (known_sides bytes (lookup ds) vs ps l r ∙ h.0)) ∙ ap accepted h.1
 texts_named bytes ds vs ps (Not a) new h = texts_named bytes ds vs ps a new h
 texts_named bytes ds vs ps (Bind q x s a) new h =
     let e = h.0 in
     ap (λ r. then_named r (λ e. named bytes e.declared (e.num ∷ vs) ps a))
-    (binder_accepted (variable_entered ds (text_at bytes x)) x.start (λ e. unknown_sort bytes e.declared vs ps s) e h.1 (known_sort bytes e.declared vs ps s ∙ h.2))
+    (binder_accepted (variable_entered ds (text_at bytes x)) x.start (λ e. unknown_sort bytes e.declared vs ps s) e h.1 (known_sort bytes (lookup e.declared) vs ps s ∙ h.2))
     ∙ texts_named bytes e.declared (e.num ∷ vs) ps a new h.3
 texts_named bytes ds vs ps (Bind2 q p ss a) new h =
     let e = h.0 in
     ap (λ r. then_named r (λ e. named bytes e.declared vs (e.num ∷ ps) a))
-    (binder_accepted (predicate_entered ds (text_at bytes p)) p.start (λ e. unknown_of bytes e.declared vs ps ss) e h.1 (known_names bytes e.declared vs ps ss ∙ h.2))
+    (binder_accepted (predicate_entered ds (text_at bytes p)) p.start (λ e. unknown_of bytes e.declared vs ps ss) e h.1 (known_names bytes (lookup e.declared) vs ps ss ∙ h.2))
     ∙ texts_named bytes e.declared vs (e.num ∷ ps) a new h.3
 texts_named bytes ds vs ps (Binary op l r) new h =
     ap (λ n. then_named n (λ ds. named bytes ds vs ps r)) (texts_named bytes ds vs ps l h.0 h.1) ∙ texts_named bytes h.0 vs ps r new h.2
 texts_named bytes ds vs ps (Paren a) new h = texts_named bytes ds vs ps a new h
 
-pub numbers_of : (bytes : List ℕ) (ds : List Declaration) (ss : List Span) → sort_numbers bytes ds ss ≡ map (number_of ds) (map (text_at bytes) ss)
-numbers_of bytes ds [] = refl
-numbers_of bytes ds (s ∷ ss) = ap (λ ns. sort_number bytes ds s ∷ ns) (numbers_of bytes ds ss)
-
 kind_is : (bytes : List ℕ) (ds : List Declaration) (d : Declared Span) → kind_declared bytes ds d ≡ kind_of_declared ds (texts_declared bytes d)
 kind_is bytes ds (DeclaredSort s) = refl
-kind_is bytes ds (DeclaredFun f ss r) = ap (λ ns. kind.Fun ns (sort_number bytes ds r)) (numbers_of bytes ds ss)
-kind_is bytes ds (DeclaredPred p ss) = ap kind.Pred (numbers_of bytes ds ss)
+kind_is bytes ds (DeclaredFun f ss r) = ap (λ ns. kind.Fun ns (sort_number bytes ds r)) (numbers_of bytes (lookup ds) ss)
+kind_is bytes ds (DeclaredPred p ss) = ap kind.Pred (numbers_of bytes (lookup ds) ss)
 kind_is bytes ds (DeclaredVar x s) = refl
 
 name_is : (bytes : List ℕ) (d : Declared Span) → text_at bytes (name_declared d) ≡ name_of_declared (texts_declared bytes d)
@@ -231,8 +159,8 @@ known_is : (bytes : List ℕ) (ds : List Declaration) (d : Declared Span) → is
 known_is bytes ds (DeclaredSort s) = refl
 known_is bytes ds (DeclaredFun f ss r) =
     none_or (unknown_of bytes ds [] [] ss) (unknown_name bytes ds [] [] r)
-    ∙ (λ i. known_names bytes ds [] [] ss i && none_unless (is_known ds [] [] (text_at bytes r)) r.start i)
-known_is bytes ds (DeclaredPred p ss) = known_names bytes ds [] [] ss
+    ∙ (λ i. known_names bytes (lookup ds) [] [] ss i && none_unless (is_known ds [] [] (text_at bytes r)) r.start i)
+known_is bytes ds (DeclaredPred p ss) = known_names bytes (lookup ds) [] [] ss
 known_is bytes ds (DeclaredVar x s) = none_unless (is_known ds [] [] (text_at bytes s)) s.start
 
 declaration_is : (bytes : List ℕ) (ds : List Declaration) (d : Declared Span)

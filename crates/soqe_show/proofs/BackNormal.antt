@@ -9,7 +9,8 @@ use Rattle.soqe_text.specs.Numbering.{over_elements, joined_by, quantified_over}
 use Rattle.soqe_show.specs.Printed.{Text}
 use Rattle.soqe_show.specs.Placed.{equation_sign}
 use Rattle.soqe_show.specs.Dress.{guard, negated}
-use Rattle.soqe_show.proofs.BackNames.{number_of, sort_known, Named}
+use Rattle.soqe_show.proofs.BackKnown.{number_of, sort_known}
+use Rattle.soqe_show.proofs.BackNames.{Named}
 use Rattle.soqe_show.proofs.BackUses.{right_sort, sort_of_binder, IsRight}
 use Rattle.soqe_show.proofs.BackNumbers.{form_of}
 

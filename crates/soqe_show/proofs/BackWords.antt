@@ -12,13 +12,15 @@ use Rattle.soqe_text.specs.Uses.{num_of, is_no_sort, arguments_by, predicate_by}
 use Rattle.soqe_show.specs.Printed.{Text}
 use Rattle.soqe_show.specs.Dress.{guard, negated}
 use Rattle.soqe_show.specs.Placed.{IsWord, AreWords_term, AreWords_terms, AreWords_sort, AreWords_sorts, AreWords, AreWords_declared, AreWords_all_declared}
-use Rattle.soqe_show.proofs.BackNames.{number_of, Named, NamedDeclared, AllNamedDeclared}
-use Rattle.soqe_show.proofs.BackUses.{is_right, right_term, right_in, right_in_all, right_atom, is_sort, right_sort, sort_of_binder, IsRight, right_one}
+use Rattle.soqe_show.proofs.BackDeclared.{right_one}
+use Rattle.soqe_show.proofs.BackKnown.{number_of}
+use Rattle.soqe_show.proofs.BackNames.{Named, NamedDeclared, AllNamedDeclared}
+use Rattle.soqe_show.proofs.BackUses.{is_right, right_term, right_in, right_in_all, right_atom, is_sort, right_sort, sort_of_binder, IsRight}
 use Rattle.soqe_show.proofs.BackNormal.{kept_sort, normal}
 use Rattle.soqe_show.proofs.BackLookups.{Grows, are_ordinary, ordinary_known, variable_enters, predicate_enters, named_grows, new_unknown}
 
 -- an ordinary name is a word
-ordinary_word : (x : Text) → is_ordinary x ≡ true → IsWord x
+pub ordinary_word : (x : Text) → is_ordinary x ≡ true → IsWord x
 unfolding kind_of
 ordinary_word [] h = absurd (true≢false (sym h))
 ordinary_word (b ∷ bs) h = inl (by (is_ascii_alphabetic b) (list_all is_word bs) (is_keyword (b ∷ bs)) _ h)

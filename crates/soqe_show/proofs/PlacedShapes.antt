@@ -7,8 +7,9 @@ use Rattle.soqe_syntax.specs.declared.piece.Piece.{Piece}
 use Rattle.soqe_syntax.specs.declared.piece.Piece.TheVariants as piece
 use Rattle.soqe_syntax.specs.Grammar.{Term, Plain, Applied, Terms, One, More, Tree, Constant, Atom, Equation, Not, Bind, Bind2, Binary, Paren, level, left, right, IsLevelled, spell_sort, spell_further, spell_sorts, spell_term, spell_terms, spell, Declared, DeclaredSort, DeclaredFun, DeclaredPred, DeclaredVar, spell_declared, spell_all_declared, Problem}
 use Rattle.soqe_syntax.specs.Pieces.{HasProblem}
+use Rattle.soqe_parse.specs.Formulas.{HasForm}
 use Rattle.soqe_show.specs.Printed.{Text, term_text, terms_text, operator_text, sort_text, further_text, sorts_text, tree_text, declared_text, all_declared_text, problem_tree_text}
-use Rattle.soqe_show.specs.Placed.{behind, place, placed_term, placed_terms, placed_sort, placed_further, placed_sorts, placed, placed_declared, placed_all_declared, placed_problem, IsWord, equation_sign, AreWords_term, AreWords_terms, AreWords_sort, AreWords_sorts, AreWords, AreWords_declared, AreWords_all_declared, AreWords_problem, HasFormula}
+use Rattle.soqe_show.specs.Placed.{behind, place, placed_term, placed_terms, placed_sort, placed_further, placed_sorts, placed, placed_declared, placed_all_declared, placed_problem, IsWord, equation_sign, AreWords_term, AreWords_terms, AreWords_sort, AreWords_sorts, AreWords, AreWords_declared, AreWords_all_declared, AreWords_problem}
 use Rattle.soqe_show.proofs.PlacedLexing.{Reads, reads-end, ends_word, any, Writes, blank-writes, nothing-writes, join, next, as_pieces, before}
 use Rattle.soqe_show.proofs.PlacedSigns.{name-writes, constant-writes, quantifier-writes, quantifier2-writes, sort-writes, fun-writes, pred-writes, var-writes, goal-writes, open-writes, close-writes, tilde-writes, comma-writes, dot-writes, semicolon-writes, colon-writes, colon-before, equals-writes, operator-writes}
 
@@ -158,7 +159,7 @@ module _ (text : Text) (pieces : ℕ → List Piece) (test : ℕ → Bool) (ends
   whole = subst (λ (bytes : List ℕ). Reads 0 bytes (pieces 0)) (append-nil text)
       (subst (λ (ps : List Piece). Reads 0 (text ++ []) ps) (append-nil (pieces 0)) (x.reads 0 [] [] ends (reads-end (0 + length text))))
 
-pub formula_has_shape : (t : Tree Text) → AreWords t → IsLevelled t → HasFormula (tree_text t) (placed 0 t)
+pub formula_has_shape : (t : Tree Text) → AreWords t → IsLevelled t → HasForm (tree_text t) (placed 0 t)
 formula_has_shape t w l =
     let r = whole (tree_text t) (λ at. spell (placed at t)) ends_word refl (tree-writes t w) in
     record { tokens = r.tokens; lexed = r.lexed; shape = record { levelled = levelled-placed t l 0; spelled = r.spelled [] refl } }

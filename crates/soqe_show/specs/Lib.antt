@@ -3,3 +3,4 @@ pub mod Printed
 pub mod Lines
 pub mod Placed
 pub mod Back
+pub mod FormBack

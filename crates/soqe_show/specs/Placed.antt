@@ -1,11 +1,11 @@
 -- Where the names of a printed tree stand in its text, and that the text has the shape of the tree.
 use Rattle.std.specs.Prelude.{◌≡◌, ◌⊎◌, ℕ, ◌+◌, Bool, true, false, List, [], ◌∷◌, ◌++◌, length, map, Option, Some, None, codes}
-use Rattle.soqe_lex.specs.declared.token.Token.{Token}
 use Rattle.soqe_lex.specs.declared.token.TokenKind.TheVariants.{Ordinary, Tagged}
-use Rattle.soqe_lex.specs.Lexical.{kind_of, Lexed}
+use Rattle.soqe_lex.specs.Lexical.{kind_of}
 use Rattle.soqe_syntax.specs.declared.piece.Span.{Span}
-use Rattle.soqe_syntax.specs.Grammar.{Term, Plain, Applied, Terms, One, More, Tree, Constant, Atom, Equation, Not, Bind, Bind2, Binary, Paren, IsLevelled, Declared, DeclaredSort, DeclaredFun, DeclaredPred, DeclaredVar, Problem, HasShape}
-use Rattle.soqe_syntax.specs.Pieces.{piece_of, HasProblem, text_at}
+use Rattle.soqe_syntax.specs.Grammar.{Term, Plain, Applied, Terms, One, More, Tree, Constant, Atom, Equation, Not, Bind, Bind2, Binary, Paren, IsLevelled, Declared, DeclaredSort, DeclaredFun, DeclaredPred, DeclaredVar, Problem}
+use Rattle.soqe_syntax.specs.Pieces.{HasProblem, text_at}
+use Rattle.soqe_parse.specs.Formulas.{HasForm}
 use Rattle.soqe_show.specs.Printed.{Text, term_text, terms_text, quantifier_text, quantifier2_text, operator_text, sort_text, sorts_text, tree_text, declared_text, all_declared_text, problem_tree_text}
 
 -- ---- places
@@ -175,15 +175,9 @@ texts_problem bytes p = record { declared = map (texts_declared bytes) p.declare
 
 -- ---- laws
 
--- The text falls into tokens whose pieces have the shape of the formula.
-pub record HasFormula (bytes : List ℕ) (tree : Tree Span) : Type 0 where
-  pub tokens : List Token
-  pub lexed : Lexed 0 bytes tokens None
-  pub shape : HasShape (map (piece_of bytes) tokens) tree
-
 -- A printed formula has its own shape, each name where its text was written.
 abbrev pub FormulaHasShape : Type 0
-FormulaHasShape = (t : Tree Text) → AreWords t → IsLevelled t → HasFormula (tree_text t) (placed 0 t)
+FormulaHasShape = (t : Tree Text) → AreWords t → IsLevelled t → HasForm (tree_text t) (placed 0 t)
 
 -- In a printed formula each name stands at its place.
 abbrev pub FormulaHasTexts : Type 0

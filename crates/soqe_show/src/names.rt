@@ -41,7 +41,7 @@ pub fn write_sort(out: &mut String, sig: &Signature, sort: u32) -> Mem<()>
     write_name(out, sig, NameKind::Sort, "", sort as u64)
 }
 
-/// Writes the name of a variable, or `_` with its number.
+/// Writes the name of a variable, or `_` with its number. It fails where memory runs out.
 pub fn write_var(out: &mut String, sig: &Signature, number: u64) -> Mem<()>
     ensures { OnOk result (string_bytes out.new ≡ string_bytes out.old ++ var_name sig.now number) }
 {
@@ -69,7 +69,8 @@ pub fn write_pred(out: &mut String, sig: &Signature, pred: Pred) -> Mem<()>
     }
 }
 
-/// Writes the sort of a binder, unless it is `obj`, which has the number 0.
+/// Writes the sort of a binder behind a colon, and nothing where it is `obj`, which has the number 0. It fails where memory
+/// runs out.
 #[tactic(auto, using(std::proofs::Common::append_assoc))]
 pub fn write_binder_sort(out: &mut String, sig: &Signature, sort: u32) -> Mem<()>
     ensures { OnOk result (string_bytes out.new ≡ string_bytes out.old ++ sort_text (written_sort sig.now sort)) }

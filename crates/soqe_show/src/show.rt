@@ -2,6 +2,7 @@
 ghost use Rattle.std.specs.Prelude.{◌≡◌, string_bytes, IfOk};
 ghost use Rattle.soqe_show.specs.Back.{SpellsWhereSome};
 ghost use Rattle.soqe_show.specs.Dress.{dress_term, form_text, problem_text};
+ghost use Rattle.soqe_show.specs.FormBack.{SpellsWhereReadable};
 ghost use Rattle.soqe_show.specs.Printed.{term_text};
 
 use crate::formulas::write_form;
@@ -12,7 +13,7 @@ use soqe_term::{Mem, Signature, Term};
 use soqe_text::Problem;
 use std::alloc::Global;
 
-/// The printed text of a term.
+/// The printed text of a term. A term is read only as a part of a formula: there it is read back with the formula.
 pub fn show_term(alloc: Global, sig: &Signature, term: &Term) -> Mem<String>
     ensures { IfOk result (λ text. string_bytes text ≡ term_text (dress_term sig.now term.now)) }
 {
@@ -21,9 +22,12 @@ pub fn show_term(alloc: Global, sig: &Signature, term: &Term) -> Mem<String>
     Ok(text)
 }
 
-/// The printed text of a formula.
+/// The printed text of a formula. It spells the formula by the names of the signature, with whatever Skolem functions, free
+/// variables and free bound predicates the formula is well sorted and can be read.
+#[tactic(auto, using(crate::proofs::FormBack::printed_form_spells))]
 pub fn show_form(alloc: Global, sig: &Signature, form: &Form) -> Mem<String>
-    ensures { IfOk result (λ text. string_bytes text ≡ form_text sig.now form.now) }
+    ensures text { IfOk result (λ text. string_bytes text ≡ form_text sig.now form.now) }
+    ensures back { IfOk result (λ text. SpellsWhereReadable (string_bytes text) sig.now form.now) }
 {
     let mut text = String::new(alloc);
     write_form(&mut text, sig, form)?;
