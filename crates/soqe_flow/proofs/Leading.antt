@@ -1,32 +1,71 @@
 -- The lines that are written so far lead to a derivation of the goal with whatever lines follow from what stands.
-use Rattle.std.proofs.Common.{◌≡◌, ℕ, Bool, List, [], ◌∷◌, ◌++◌, Some, None, refl, sym, subst, append_assoc}
+use Rattle.std.proofs.Common.{◌≡◌, ℕ, Bool, List, [], ◌∷◌, ◌++◌, Some, None, refl, sym, ◌∙◌, ap, subst, append_assoc}
 use Rattle.soqe_form.specs.declared.form.Form.{Form}
 use Rattle.soqe_form.specs.declared.form.Block.{Block}
 use Rattle.soqe_form.specs.Places.{first_block}
 use Rattle.soqe_norm.specs.Valued.{value_for}
+use Rattle.soqe_ack.specs.declared.steps.DlsStep.{DlsStep}
+use Rattle.soqe_dls.specs.declared.elimination.DlsEnd.TheVariants as end
+use Rattle.soqe_dls.specs.Runs.{IsAnswer}
 use Rattle.soqe_deriv.specs.declared.document.Line.{Line}
 use Rattle.soqe_deriv.specs.declared.document.Line.TheVariants as line
 use Rattle.soqe_deriv.specs.declared.document.Stop.{Stop}
 use Rattle.soqe_deriv.specs.declared.document.Stop.TheVariants as stop
+use Rattle.soqe_flow.specs.declared.derivation.Wanted.{Wanted}
 use Rattle.soqe_flow.specs.declared.derivation.Wanted.TheVariants as wanted
-use Rattle.soqe_flow.specs.Ordered.{Ending, Result, Stops, Follows, result, sign, mixed, sign_lines, after_sign}
-use Rattle.soqe_flow.specs.Running.{Derives, HasRun, IsMixed, mixed_lines}
+use Rattle.soqe_flow.specs.declared.blocks.BlockEnd.TheVariants as block
+use Rattle.soqe_flow.specs.Ordered.{Ending, Result, Stops, Follows, result, sign, mixed, dls, not_reached, sign_lines, after_sign, normal, closed_by, after_block, cases_lines, lost_lines}
+use Rattle.soqe_flow.specs.Running.{Derives, HasRun, WritesBlock, IsMixed, mixed_lines}
 
-abbrev pub Leads : List ℕ → Form → List Line → Form → Type 0
-Leads keep g all f = (ls : List Line) (e : Ending) → Follows keep wanted.Sign f ls e → Derives keep g (all ++ ls) e
+abbrev pub Leads : List ℕ → Wanted → Form → List Line → Form → Type 0
+Leads keep w g all f = (ls : List Line) (e : Ending) → Follows keep w f ls e → Derives keep w g (all ++ ls) e
 
-pub leads-start : (keep : List ℕ) (g : Form) → Leads keep g (line.Start g ∷ []) g
-leads-start keep g ls e k = record { lines = ls; are = refl; follow = k }
+pub leads-start : (keep : List ℕ) (w : Wanted) (g : Form) → Leads keep w g (line.Start g ∷ []) g
+leads-start keep w g ls e k = record { lines = ls; are = refl; follow = k }
 
-pub leads-sign : (keep : List ℕ) (g f : Form) (all : List Line) (b : Block) (v : Bool) → first_block f ≡ Some b → value_for b ≡ Some v → Leads keep g all f
-    → Leads keep g (all ++ sign_lines keep b v) (after_sign keep f b v)
-leads-sign keep g f all b v h q k ls e r =
-    subst (λ ms. Derives keep g ms e) (sym (append_assoc all (sign_lines keep b v) ls)) (k (sign_lines keep b v ++ ls) e (sign h q r))
+-- over the lines of a block
+pub leads-on : (keep : List ℕ) (w : Wanted) (g f next : Form) (old new : List Line) → Leads keep w g old f → WritesBlock keep w f old new (block.Stands next)
+    → Leads keep w g new next
+leads-on keep w g f next old new k h ms e r =
+    subst (λ ls. Derives keep w g ls e) (sym (append_assoc old h.0 ms) ∙ ap (λ ls. ls ++ ms) (sym h.1)) (k (h.0 ++ ms) e (h.2 ms e r))
 
-pub leads-result : (keep : List ℕ) (g f : Form) (all : List Line) → first_block f ≡ None → Leads keep g all f
-    → HasRun keep g (all ++ line.Result f ∷ line.End ∷ []) None
-leads-result keep g f all h k = (f, k (line.Result f ∷ line.End ∷ []) (Result f) (result h))
+-- to the stop of a block
+pub leads-stop : (keep : List ℕ) (w : Wanted) (g f : Form) (s : Stop) (old new : List Line) → Leads keep w g old f → WritesBlock keep w f old new (block.Stopped s)
+    → HasRun keep w g new (Some s)
+leads-stop keep w g f s old new k h = subst (λ ls. Derives keep w g ls (Stops s)) (sym h.1) (k h.0 (Stops s) h.2)
 
-pub leads-mixed : (keep : List ℕ) (g f : Form) (all : List Line) (b : Block) (s : Stop) → first_block f ≡ Some b → IsMixed b s → Leads keep g all f
-    → HasRun keep g (all ++ mixed_lines b s) (Some s)
-leads-mixed keep g f all b (stop.Mixed i j) h m k = k (mixed_lines b (stop.Mixed i j)) (Stops (stop.Mixed i j)) (mixed h m.0 m.1)
+-- to the result
+pub leads-result : (keep : List ℕ) (w : Wanted) (g f : Form) (all : List Line) → first_block f ≡ None → Leads keep w g all f
+    → HasRun keep w g (all ++ line.Result f ∷ line.End ∷ []) None
+leads-result keep w g f all h k = (f, k (line.Result f ∷ line.End ∷ []) (Result f) (result h))
+
+-- ---- the lines of one block
+
+pub writes-sign : (keep : List ℕ) (f next : Form) (old new : List Line) (b : Block) (v : Bool) → first_block f ≡ Some b → value_for b ≡ Some v
+    → new ≡ old ++ sign_lines keep b v → next ≡ after_sign keep f b v → WritesBlock keep wanted.Sign f old new (block.Stands next)
+writes-sign keep f next old new b v h q e n = (sign_lines keep b v, e, λ ms x r. sign h q (subst (λ g. Follows keep wanted.Sign g ms x) n r))
+
+pub writes-mixed : (keep : List ℕ) (f : Form) (old new : List Line) (b : Block) (s : Stop) → first_block f ≡ Some b → IsMixed b s
+    → new ≡ old ++ mixed_lines b s → WritesBlock keep wanted.Sign f old new (block.Stopped s)
+writes-mixed keep f old new b (stop.Mixed i j) h m e = (mixed_lines b (stop.Mixed i j), e, mixed h m.0 m.1)
+writes-mixed keep f old new b (stop.NotReached n) h m e = absurd m
+
+pub writes-cases : (keep : List ℕ) (f form next : Form) (old mid new : List Line) (b : Block) (steps : List DlsStep) → first_block f ≡ Some b
+    → IsAnswer keep b.pred (normal keep b) (end.Done steps form) → mid ≡ old ++ cases_lines b (normal keep b) steps
+    → new ≡ mid ++ line.Close (closed_by keep b form) ∷ [] → next ≡ after_block keep f b (closed_by keep b form)
+    → WritesBlock keep wanted.Dls f old new (block.Stands next)
+writes-cases keep f form next old mid new b steps h a e k n =
+    let ls : List Line = cases_lines b (normal keep b) steps in
+    let close : List Line = line.Close (closed_by keep b form) ∷ [] in (
+      ls ++ close,
+      k ∙ ap (λ ms. ms ++ close) e ∙ append_assoc old ls close,
+      λ ms x r. subst (λ ns. Follows keep wanted.Dls f ns x) (sym (append_assoc ls close ms))
+          (dls h a (subst (λ g. Follows keep wanted.Dls g ms x) n r)),
+    )
+
+pub writes-lost : (keep : List ℕ) (f : Form) (old mid new : List Line) (b : Block) (steps : List DlsStep) (n : ℕ) → first_block f ≡ Some b
+    → IsAnswer keep b.pred (normal keep b) (end.NotReached steps n) → mid ≡ old ++ cases_lines b (normal keep b) steps
+    → new ≡ mid ++ lost_lines n → WritesBlock keep wanted.Dls f old new (block.Stopped (stop.NotReached n))
+writes-lost keep f old mid new b steps n h a e k =
+    let ls : List Line = cases_lines b (normal keep b) steps in
+    (ls ++ lost_lines n, k ∙ ap (λ ms. ms ++ lost_lines n) e ∙ append_assoc old ls (lost_lines n), not_reached h a)

@@ -1,5 +1,5 @@
+pub mod CasesValid
 pub mod Leading
-pub mod Lighter
 pub mod Marked
 pub mod Unique
 pub mod Validity

@@ -1,11 +1,15 @@
 -- The document that is written for a problem: block by block, the first block of what stands each time.
-use Rattle.std.specs.Prelude.{◌≡◌, ℕ, Bool, List, [], ◌∷◌, ◌++◌, Some, None}
+use Rattle.std.specs.Prelude.{◌≡◌, ℕ, Bool, true, cond, not, List, [], ◌∷◌, ◌++◌, map, Some, None}
 use Rattle.soqe_form.specs.declared.form.Form.{Form}
 use Rattle.soqe_form.specs.declared.form.Pred.TheVariants.{Bound}
 use Rattle.soqe_form.specs.declared.form.Block.{Block}
 use Rattle.soqe_form.specs.Places.{first_block, put_at}
 use Rattle.soqe_form.specs.Tidy.{tidy}
+use Rattle.soqe_norm.specs.Nnf.{nnf}
 use Rattle.soqe_norm.specs.Valued.{valued, value_for, first_pos, first_neg}
+use Rattle.soqe_ack.specs.declared.steps.DlsStep.{DlsStep}
+use Rattle.soqe_dls.specs.declared.elimination.DlsEnd.TheVariants as end
+use Rattle.soqe_dls.specs.Runs.{IsAnswer}
 use Rattle.soqe_text.specs.declared.problem.Problem.{Problem}
 use Rattle.soqe_deriv.specs.declared.document.Method.TheVariants as method
 use Rattle.soqe_deriv.specs.declared.document.Stop.{Stop}
@@ -29,17 +33,41 @@ pub data Ending : Type 0 where
 abbrev pub replaced : List ℕ → Block → Bool → Form
 replaced keep b v = tidy keep (valued b.pred.num v b.body)
 
--- the formula that replaces the block
+-- what stands where a formula takes the place of a block
+abbrev pub after_block : List ℕ → Form → Block → Form → Form
+after_block keep f b closed = simplified keep (put_at b.place closed f)
+
+-- the formula that takes the place of a block whose predicate is replaced by a truth value
 abbrev pub closed : List ℕ → Block → Bool → Form
 closed keep b v = simplified keep (replaced keep b v)
 
--- the lines of a block whose predicate is replaced by a truth value
+-- the lines of such a block
 abbrev pub sign_lines : List ℕ → Block → Bool → List Line
 sign_lines keep b v = line.Block method.Sign (Bound b.pred.num) ∷ line.Replace v (replaced keep b v) ∷ line.Close (closed keep b v) ∷ []
 
--- what stands after such a block
+-- what stands after it
 abbrev pub after_sign : List ℕ → Form → Block → Bool → Form
-after_sign keep f b v = simplified keep (put_at b.place (closed keep b v) f)
+after_sign keep f b v = after_block keep f b (closed keep b v)
+
+-- the normal form of a block's body, of its negation where all tables are tried, tidy
+abbrev pub normal : List ℕ → Block → Form
+normal keep b = tidy keep (nnf (not b.exists) b.body)
+
+-- what takes the place of a block with this answer of its cases
+abbrev pub answered : Block → Form → Form
+answered b form = cond b.exists form (nnf true form)
+
+-- the same, simplified
+abbrev pub closed_by : List ℕ → Block → Form → Form
+closed_by keep b form = simplified keep (answered b form)
+
+-- the lines of a block by cases up to the end of its steps, over a normal form
+abbrev pub cases_lines : Block → Form → List DlsStep → List Line
+cases_lines b form steps = line.Block method.Dls (Bound b.pred.num) ∷ line.Nnf form ∷ map line.Dls steps
+
+-- the last lines of a block with a case that no try reaches
+abbrev pub lost_lines : ℕ → List Line
+lost_lines n = line.Stopped (stop.NotReached n) ∷ line.End ∷ []
 
 -- Where f stands, these lines follow with the method asked for, and this is their ending. Formulas are tidy with the numbers
 -- to keep out.
@@ -50,6 +78,13 @@ pub data Follows (keep : List ℕ) : Wanted → Form → List Line → Ending �
   mixed : {f : Form} {b : Block} {i j : ℕ} → first_block f ≡ Some b
       → first_pos (Bound b.pred.num) b.body ≡ Some i → first_neg (Bound b.pred.num) b.body ≡ Some j
       → Follows keep wanted.Sign f (line.Block method.Sign (Bound b.pred.num) ∷ line.Stopped (stop.Mixed i j) ∷ line.End ∷ []) (Stops (stop.Mixed i j))
+  dls : {f form : Form} {b : Block} {steps : List DlsStep} {ls : List Line} {e : Ending} → first_block f ≡ Some b
+      → IsAnswer keep b.pred (normal keep b) (end.Done steps form)
+      → Follows keep wanted.Dls (after_block keep f b (closed_by keep b form)) ls e
+      → Follows keep wanted.Dls f (cases_lines b (normal keep b) steps ++ line.Close (closed_by keep b form) ∷ ls) e
+  not_reached : {f : Form} {b : Block} {steps : List DlsStep} {n : ℕ} → first_block f ≡ Some b
+      → IsAnswer keep b.pred (normal keep b) (end.NotReached steps n)
+      → Follows keep wanted.Dls f (cases_lines b (normal keep b) steps ++ lost_lines n) (Stops (stop.NotReached n))
 
 -- the formula that a problem's derivation starts with
 abbrev pub started : Problem → Form

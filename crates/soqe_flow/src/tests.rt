@@ -8,6 +8,7 @@ ghost use Rattle.soqe_form.specs.Sorted.{sorted};
 ghost use Rattle.soqe_text.specs.declared.problem.Problem.TheVariants.{Elim};
 
 use crate::{FlowEnd, Wanted, elim};
+use soqe_ack::DlsStep;
 use soqe_deriv::{Line, Stop};
 use soqe_form::make::{
     conjunction, constant, disjunction, equivalence, exists_table, for_all_tables, negation,
@@ -72,11 +73,21 @@ fn nested(alloc: Global) -> Mem<Boxed<Form>>
     exists_table(alloc, binder(alloc, 0), body)
 }
 
+fn step_letter(step: &DlsStep) -> u8 {
+    match step {
+        DlsStep::Case { .. } => b'k',
+        DlsStep::Ack { .. } => b'a',
+        DlsStep::Gives(_) => b'g',
+    }
+}
+
 fn letter(line: &Line) -> u8 {
     match line {
         Line::Start(_) => b's',
         Line::Block { pred, .. } => if *pred == Pred::Bound(0) { b'P' } else { b'Q' },
         Line::Replace { value, .. } => if *value { b't' } else { b'f' },
+        Line::Nnf(_) => b'n',
+        Line::Dls(step) => step_letter(step),
         Line::Close(_) => b'c',
         Line::Result(_) => b'r',
         Line::Stopped(_) => b'm',
@@ -101,11 +112,11 @@ fn is_told(end: &FlowEnd, letters: &[u8], due: Option<Stop>) -> bool {
     }
 }
 
-fn derivation(alloc: Global, goal: Boxed<Form>) -> Mem<FlowEnd>
+fn derivation(alloc: Global, goal: Boxed<Form>, wanted: Wanted) -> Mem<FlowEnd>
     requires { (e : Sorting) → sorted e goal ≡ true }
 {
     let sig = Signature::new(alloc)?;
-    elim(alloc, posed(sig, goal), Wanted::Sign)
+    elim(alloc, posed(sig, goal), wanted)
 }
 
 fn posed(sig: Signature, goal: Boxed<Form>) -> Problem
@@ -121,7 +132,7 @@ fn posed(sig: Signature, goal: Boxed<Form>) -> Problem
 fn no_block_is_the_result(rt: HostRuntime) -> Result<(), Fail> {
     let alloc = rt.alloc();
     let goal = constant(alloc, true)?;
-    let end = derivation(alloc, goal)?;
+    let end = derivation(alloc, goal, Wanted::Sign)?;
     assert!(rt; is_told(&end, b"sre", None));
     Ok(())
 }
@@ -130,7 +141,7 @@ fn no_block_is_the_result(rt: HostRuntime) -> Result<(), Fail> {
 fn both_signs_stop(rt: HostRuntime) -> Result<(), Fail> {
     let alloc = rt.alloc();
     let goal = mixed(alloc)?;
-    let end = derivation(alloc, goal)?;
+    let end = derivation(alloc, goal, Wanted::Sign)?;
     assert!(rt; is_told(&end, b"sPme", Some(Stop::Mixed { pos: 1, neg: 2 })));
     Ok(())
 }
@@ -139,7 +150,25 @@ fn both_signs_stop(rt: HostRuntime) -> Result<(), Fail> {
 fn the_inner_block_is_first(rt: HostRuntime) -> Result<(), Fail> {
     let alloc = rt.alloc();
     let goal = nested(alloc)?;
-    let end = derivation(alloc, goal)?;
+    let end = derivation(alloc, goal, Wanted::Sign)?;
     assert!(rt; is_told(&end, b"sQfcPtcre", None));
+    Ok(())
+}
+
+#[test]
+fn both_signs_have_cases(rt: HostRuntime) -> Result<(), Fail> {
+    let alloc = rt.alloc();
+    let goal = mixed(alloc)?;
+    let end = derivation(alloc, goal, Wanted::Dls)?;
+    assert!(rt; is_told(&end, b"sPnkagkagcre", None));
+    Ok(())
+}
+
+#[test]
+fn the_inner_block_is_first_by_cases(rt: HostRuntime) -> Result<(), Fail> {
+    let alloc = rt.alloc();
+    let goal = nested(alloc)?;
+    let end = derivation(alloc, goal, Wanted::Dls)?;
+    assert!(rt; is_told(&end, b"sQnkagcPnkagcre", None));
     Ok(())
 }

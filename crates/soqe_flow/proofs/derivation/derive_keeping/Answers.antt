@@ -5,5 +5,5 @@ use Rattle.soqe_flow.proofs.derivation.derive_keeping.Goals as goal
 
 pub returns : goal.returns
 returns c =
-    subst (λ k. IfOk c.run_signs.result (λ run. HasRun k (simplified k (goal_of c.args.problem.now)) run.lines run.stop)) c.requires
-    (subst (λ g. IfOk c.run_signs.result (λ run. HasRun c.args.keep.now (simplified c.args.keep.now g) run.lines run.stop)) c.goal.ensures c.run_signs.ensures)
+    subst (λ k. IfOk c.run_blocks.result (λ run. HasRun k c.args.wanted (simplified k (goal_of c.args.problem.now)) run.lines run.stop)) c.requires
+    (subst (λ g. IfOk c.run_blocks.result (λ run. HasRun c.args.keep.now c.args.wanted (simplified c.args.keep.now g) run.lines run.stop)) c.goal.ensures c.run_blocks.ensures)

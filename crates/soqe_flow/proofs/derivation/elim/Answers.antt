@@ -1,6 +1,5 @@
-use Rattle.soqe_flow.specs.declared.derivation.Wanted.TheVariants as wanted
 use Rattle.soqe_flow.proofs.Validity.{ends-sound}
 use Rattle.soqe_flow.proofs.derivation.elim.Goals as goal
 
 pub returns-in-Ok-clause-sound : goal.returns-in-Ok-clause-sound
-returns-in-Ok-clause-sound c = ends-sound c.args.wanted wanted.Sign c.args.problem c.ended.result c.requires c.ended.ensures
+returns-in-Ok-clause-sound c = ends-sound c.args.wanted c.args.wanted c.args.problem c.ended.result c.requires c.ended.ensures

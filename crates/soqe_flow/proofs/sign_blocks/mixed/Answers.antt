@@ -1,5 +1,5 @@
 use Rattle.soqe_flow.proofs.Marked.{some-pos, some-neg}
-use Rattle.soqe_flow.proofs.derivation.mixed.Goals as goal
+use Rattle.soqe_flow.proofs.sign_blocks.mixed.Goals as goal
 
 pub exact-requires : goal.exact-requires
 exact-requires c = some-pos c.args.block.now c.get.result.now c.first_signs-first.result.pos c.requires c.first_signs-first.ensures.pos c.get.ensures
