@@ -1,15 +1,12 @@
 -- What is due after each way of reading.
-use Rattle.std.proofs.Common.{◌≡◌, refl, ℕ, ◌<◌, ◌+◌, List, length, arith, inl, inr}
+use Rattle.std.proofs.Common.{◌≡◌, ℕ, ◌<◌, ◌+◌, List, length, arith, inl, inr}
 use Rattle.std.specs.Prelude.{Option, Some, IsTrue}
 use Rattle.std.specs.Io.KnownBytes.{Consumes, IsAtEnd}
 use Rattle.soqe_run.specs.Plan.{the_plan}
 use Rattle.soqe_run.specs.Reply.{is_reply}
-use Rattle.soqe_run.specs.Answer.{planned, Replies, too_long, by_sign, limit_of}
+use Rattle.soqe_run.specs.Answer.{planned, Replies, too_long, by_method, limit_of}
 use Rattle.soqe_run.specs.Outcome.{IsDue, IsDueFor, IsReadFor}
-use Rattle.soqe_run.specs.declared.plan.Method.{Method}
-use Rattle.soqe_run.specs.declared.plan.Method.TheVariants.{Sign}
 use Rattle.soqe_run.specs.declared.plan.Plan.{Plan}
-use Rattle.soqe_run.specs.declared.plan.Plan.TheVariants.{Elim}
 use Rattle.soqe_run.specs.declared.status.Status.{Status}
 use Rattle.soqe_run.specs.declared.status.Status.TheVariants.{TooLong}
 
@@ -22,7 +19,7 @@ read_to_end plan status bytes after reply end = end
 read_enough : (plan : Plan) (status : Status) (text bytes : List ℕ) (after : Option (List ℕ))
     → (length bytes < limit_of plan + 1 → IsAtEnd after) → Replies plan bytes status text → IsReadFor plan status bytes after
 read_enough plan status text bytes after end (too_long long is) = rw is.status_is long
-read_enough plan status text bytes after end (by_sign is short reply h) = read_to_end plan status bytes after reply (end (omega arith))
+read_enough plan status text bytes after end (by_method wanted is short reply h) = read_to_end plan status bytes after reply (end (omega arith))
 
 -- the reply to bytes that were read up to one byte past the limit is due
 pub due_read : (plan : Plan) (before after : Option (List ℕ)) (rose : Type 0) (status : Status) (text bytes : List ℕ)
@@ -45,7 +42,3 @@ due_planned words before after rose status text plan is (inl reply) = inl record
   enough = rw is reply.enough;
 }
 due_planned words before after rose status text plan is (inr fault) = inr fault
-
--- there is one method
-pub the_only_method : (method : Method) → Elim method ≡ Elim Sign
-the_only_method Sign = refl

@@ -3,23 +3,31 @@ use Rattle.std.proofs.Common.{◌≡◌, ◌∙◌, sym, ℕ, List, inl, inr}
 use Rattle.std.specs.Prelude.{Option, Some}
 use Rattle.std.specs.Io.KnownBytes.{Appends, Consumes, IsAtEnd}
 use Rattle.soqe_run.specs.Plan.{the_plan}
-use Rattle.soqe_run.specs.Answer.{Answer, usage, planned, Replies, too_long, by_sign}
-use Rattle.soqe_run.specs.Responds.{Responds, syntax_fault, names_fault, sorts_fault, done, mixed}
+use Rattle.soqe_run.specs.Answer.{Answer, usage, planned, Replies, too_long, by_method}
+use Rattle.soqe_run.specs.Responds.{Responds, syntax_fault, names_fault, sorts_fault, done, stopped, status_of}
 use Rattle.soqe_run.specs.Outcome.{IsDue, IsDelivered, IsReadForAnswer}
 use Rattle.soqe_run.specs.Headline.{IsSolved}
+use Rattle.soqe_flow.specs.declared.derivation.Wanted.{Wanted}
+use Rattle.soqe_deriv.specs.declared.document.Stop.{Stop}
+use Rattle.soqe_deriv.specs.declared.document.Stop.TheVariants as stop
 use Rattle.soqe_run.specs.declared.plan.Plan.{Plan}
 use Rattle.soqe_run.specs.declared.status.Status.{Status}
-use Rattle.soqe_run.specs.declared.status.Status.TheVariants.{Done, Usage, Syntax, Names, Sorts, TooLong, Mixed, ReadFault, WriteFault}
+use Rattle.soqe_run.specs.declared.status.Status.TheVariants.{Done, Usage, Syntax, Names, Sorts, TooLong, ReadFault, WriteFault}
+
+-- no stop is `Done`
+stop_not_done : {A : Type 0} (s : Stop) → status_of s ≡ Done → A
+stop_not_done (stop.Mixed i j) e = cc
+stop_not_done (stop.NotReached n) e = cc
 
 -- what an engine answers with `Done` is a derivation with a result
-solved_response : (left_before left_after taken_before taken_after : Option (List ℕ)) (read text : List ℕ) (status : Status)
+solved_response : (wanted : Wanted) (left_before left_after taken_before taken_after : Option (List ℕ)) (read text : List ℕ) (status : Status)
     → status ≡ Done → Consumes left_before left_after read → IsAtEnd left_after → Appends taken_before taken_after text
-    → Responds read status text → IsSolved left_before left_after taken_before taken_after
-solved_response lb la tb ta read text status is told end wrote (syntax_fault at fault fixed) = let e : status ≡ Syntax = fixed.status_is in cc
-solved_response lb la tb ta read text status is told end wrote (names_fault at fault fixed) = let e : status ≡ Names = fixed.status_is in cc
-solved_response lb la tb ta read text status is told end wrote (sorts_fault at fault fixed) = let e : status ≡ Sorts = fixed.status_is in cc
-solved_response lb la tb ta read text status is told end wrote (mixed d s spelled refused fixed) = let e : status ≡ Mixed = fixed.status_is in cc
-solved_response lb la tb ta read text status is told end wrote (done d f spelled derived fixed) = record {
+    → Responds wanted read status text → IsSolved left_before left_after taken_before taken_after
+solved_response wanted lb la tb ta read text status is told end wrote (syntax_fault at fault fixed) = let e : status ≡ Syntax = fixed.status_is in cc
+solved_response wanted lb la tb ta read text status is told end wrote (names_fault at fault fixed) = let e : status ≡ Names = fixed.status_is in cc
+solved_response wanted lb la tb ta read text status is told end wrote (sorts_fault at fault fixed) = let e : status ≡ Sorts = fixed.status_is in cc
+solved_response wanted lb la tb ta read text status is told end wrote (stopped d s spelled refused fixed) = stop_not_done s (sym fixed.status_is ∙ is)
+solved_response wanted lb la tb ta read text status is told end wrote (done d f spelled derived fixed) = record {
   read = read;
   told = told;
   whole = end;
@@ -36,8 +44,8 @@ solved_reply : (left_before left_after taken_before taken_after : Option (List �
     → status ≡ Done → Consumes left_before left_after read → IsAtEnd left_after → Appends taken_before taken_after text
     → Replies plan read status text → IsSolved left_before left_after taken_before taken_after
 solved_reply lb la tb ta plan read text status is told end wrote (too_long long fixed) = let e : status ≡ TooLong = fixed.status_is in cc
-solved_reply lb la tb ta plan read text status is told end wrote (by_sign plan_is short reply responds) =
-    solved_response lb la tb ta read text status is told end wrote responds
+solved_reply lb la tb ta plan read text status is told end wrote (by_method wanted plan_is short reply responds) =
+    solved_response wanted lb la tb ta read text status is told end wrote responds
 
 -- a source that was read far enough for an answer with `Done` was read to its end
 read_whole : (words : List (List ℕ)) (plan : Plan) (status : Status) (read : List ℕ) (left : Option (List ℕ))

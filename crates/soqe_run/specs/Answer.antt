@@ -5,7 +5,7 @@ use Rattle.soqe_run.specs.Reply.{IsFixed, is_reply, line}
 use Rattle.soqe_run.specs.Responds.{Responds}
 use Rattle.soqe_run.specs.declared.plan.Plan.{Plan}
 use Rattle.soqe_run.specs.declared.plan.Plan.TheVariants.{Elim}
-use Rattle.soqe_run.specs.declared.plan.Method.TheVariants.{Sign}
+use Rattle.soqe_flow.specs.declared.derivation.Wanted.{Wanted}
 use Rattle.soqe_run.specs.declared.status.Status.{Status}
 use Rattle.soqe_run.specs.declared.status.Status.TheVariants.{Usage, TooLong}
 
@@ -15,12 +15,13 @@ max_bytes = 1048576
 
 -- the most bytes of a text that a plan takes
 abbrev pub limit_of : Plan → ℕ
-limit_of (Elim method) = max_bytes
+limit_of (Elim wanted) = max_bytes
 
 -- the reply to bytes, once the words are taken
 pub data Replies (plan : Plan) (bytes : List ℕ) (status : Status) (text : List ℕ) : Type 0 where
   too_long : limit_of plan < length bytes → IsFixed TooLong (line (codes "too long")) status text → Replies plan bytes status text
-  by_sign : plan ≡ Elim Sign → length bytes ≤ limit_of plan → IsTrue (is_reply status) → Responds bytes status text → Replies plan bytes status text
+  by_method : (wanted : Wanted) → plan ≡ Elim wanted → length bytes ≤ limit_of plan → IsTrue (is_reply status) → Responds wanted bytes status text
+      → Replies plan bytes status text
 
 -- the answer to words and bytes
 pub data Answer (words : List (List ℕ)) (bytes : List ℕ) (status : Status) (text : List ℕ) : Type 0 where

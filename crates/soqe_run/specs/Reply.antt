@@ -1,6 +1,6 @@
 use Rattle.std.specs.Prelude.{◌≡◌, ℕ, Bool, true, false, List, [], ◌∷◌, ◌++◌}
 use Rattle.soqe_run.specs.declared.status.Status.{Status}
-use Rattle.soqe_run.specs.declared.status.Status.TheVariants.{Done, Syntax, Names, Sorts, Mixed}
+use Rattle.soqe_run.specs.declared.status.Status.TheVariants.{Done, Syntax, Names, Sorts, NotReached, Mixed}
 
 -- a text and a line feed
 abbrev pub line : List ℕ → List ℕ
@@ -17,5 +17,6 @@ is_reply Done = true
 is_reply Syntax = true
 is_reply Names = true
 is_reply Sorts = true
+is_reply NotReached = true
 is_reply Mixed = true
 is_reply status = false

@@ -1,6 +1,6 @@
 use Rattle.std.specs.Prelude.{ℕ}
 use Rattle.soqe_run.specs.declared.status.Status.{Status}
-use Rattle.soqe_run.specs.declared.status.Status.TheVariants.{Done, Usage, Syntax, Names, Sorts, TooLong, ReadFault, WriteFault, Memory, Mixed}
+use Rattle.soqe_run.specs.declared.status.Status.TheVariants.{Done, Usage, Syntax, Names, Sorts, TooLong, ReadFault, WriteFault, Memory, NotReached, Mixed}
 
 -- the number of each status
 abbrev pub number_of : Status → ℕ
@@ -13,4 +13,5 @@ number_of TooLong = 6
 number_of ReadFault = 7
 number_of WriteFault = 8
 number_of Memory = 9
+number_of NotReached = 12
 number_of Mixed = 14

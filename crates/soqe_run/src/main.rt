@@ -19,7 +19,7 @@ mod status;
 #[cfg(test)]
 mod tests;
 
-pub use plan::{Method, Plan, read_plan};
+pub use plan::{Plan, read_plan};
 pub use reply::Reply;
 pub use run::run;
 use soqe_io::{StdSink, StdSource};

@@ -1,18 +1,13 @@
 ghost use Rattle.std.specs.Prelude.{◌≡◌, map, string_bytes};
 ghost use Rattle.soqe_run.specs.Plan.{method_named, the_plan};
 
-/// How predicates are eliminated.
-#[derive(Clone, Copy, Debug, PartialEq, Eq)]
-pub enum Method {
-    /// Of a predicate that occurs with one sign, by the truth value that this sign allows.
-    Sign,
-}
+use soqe_flow::Wanted;
 
 /// What the words ask for.
 #[derive(Clone, Copy, Debug, PartialEq, Eq)]
 pub enum Plan {
-    /// Eliminate the quantified predicates of the goal.
-    Elim(Method),
+    /// Eliminate the quantified predicates of the goal by a method.
+    Elim(Wanted),
 }
 
 /// The plan of the words, the program's name first, or nothing where they aren't taken. It takes no memory.
@@ -34,11 +29,13 @@ pub fn read_plan(words: &[String]) -> Option<Plan>
     }
 }
 
-fn read_method(name: &str) -> Option<Method>
+fn read_method(name: &str) -> Option<Wanted>
     ensures { result ≡ method_named name.now }
 {
     if name == "sign" {
-        Some(Method::Sign)
+        Some(Wanted::Sign)
+    } else if name == "dls" {
+        Some(Wanted::Dls)
     } else {
         None
     }

@@ -3,25 +3,24 @@ ghost use Rattle.std.specs.Fmt.{decimal};
 ghost use Rattle.soqe_text.specs.Spelled.{Spells};
 ghost use Rattle.soqe_text.specs.Sorted.{IsSorted};
 ghost use Rattle.soqe_deriv.specs.Text.{document_text};
-ghost use Rattle.soqe_flow.specs.Ordered.{EndsAsOrdered, EndsAsSound};
 ghost use Rattle.soqe_run.specs.Reply.{IsFixed, is_reply, line};
-ghost use Rattle.soqe_run.specs.Responds.{Responds};
+ghost use Rattle.soqe_run.specs.Responds.{Responds, status_of};
 
 use crate::{Reply, Status};
-use soqe_deriv::{Document, write_document};
+use soqe_deriv::{Document, Stop, write_document};
 use soqe_flow::{FlowEnd, Wanted, elim};
 use soqe_io::Mem;
 use soqe_text::{Command, Problem, TextFault, read_problem};
 use std::alloc::{AllocError, Global};
 
 /// The engine: the reply to a text that isn't over its limit. The one error is want of memory.
-pub(crate) fn respond(alloc: Global, bytes: &[u8]) -> Mem<Reply>
+pub(crate) fn respond(alloc: Global, wanted: Wanted, bytes: &[u8]) -> Mem<Reply>
     requires { length bytes.now < 2 ^ 32 }
-    ensures responds { IfOk result (λ reply. Responds bytes.now reply.status reply.text.items) }
+    ensures responds { IfOk result (λ reply. Responds wanted bytes.now reply.status reply.text.items) }
     ensures status { IfOk result (λ reply. IsTrue (is_reply reply.status)) }
 {
     match read_problem(alloc, Command::Elim, bytes) {
-        Ok(problem) => Ok(derive(alloc, problem)?),
+        Ok(problem) => Ok(derive(alloc, wanted, problem)?),
         Err(TextFault::Syntax(at)) => Ok(refused_at(alloc, Status::Syntax, "syntax at ", at)?),
         Err(TextFault::Names(at)) => Ok(refused_at(alloc, Status::Names, "names at ", at)?),
         Err(TextFault::Sorts(at)) => Ok(refused_at(alloc, Status::Sorts, "sorts at ", at)?),
@@ -30,29 +29,29 @@ pub(crate) fn respond(alloc: Global, bytes: &[u8]) -> Mem<Reply>
 }
 
 // The reply to a text that spells the problem: its derivation, with a result or with a stop.
-fn derive(alloc: Global, problem: Problem) -> Mem<Reply>
+fn derive(alloc: Global, wanted: Wanted, problem: Problem) -> Mem<Reply>
     requires { IsSorted problem }
     ensures responds { IfOk result (λ reply. (bytes : List ℕ) → Spells bytes problem
-        → Responds bytes reply.status reply.text.items) }
+        → Responds wanted bytes reply.status reply.text.items) }
     ensures status { IfOk result (λ reply. IsTrue (is_reply reply.status)) }
 {
-    match derivation(alloc, problem) {
+    match elim(alloc, problem, wanted) {
         Ok(FlowEnd::Done(document)) => Ok(written(alloc, Status::Done, document)?),
         Ok(FlowEnd::Stopped { document, stop }) => {
-            let _stop = stop;
-            Ok(written(alloc, Status::Mixed, document)?)
+            Ok(written(alloc, stop_status(stop), document)?)
         }
         Err(AllocError) => Err(AllocError),
     }
 }
 
-// The derivation of a problem, which moves into the document.
-fn derivation(alloc: Global, problem: Problem) -> Mem<FlowEnd>
-    requires { IsSorted problem }
-    ensures ordered { IfOk result (λ end. EndsAsOrdered Wanted.Sign problem end) }
-    ensures sound { IfOk result (λ end. EndsAsSound Wanted.Sign end) }
+// The status of a stop.
+fn stop_status(stop: Stop) -> Status
+    ensures { result ≡ status_of stop }
 {
-    elim(alloc, problem, Wanted::Sign)
+    match stop {
+        Stop::Mixed { .. } => Status::Mixed,
+        Stop::NotReached(_) => Status::NotReached,
+    }
 }
 
 // The reply with the text of a document.

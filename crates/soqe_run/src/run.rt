@@ -9,7 +9,8 @@ ghost use Rattle.soqe_run.specs.Outcome.{EndsAs, IsDelivered, IsDue, most_read};
 
 use crate::reply::{read_fault, too_long, usage};
 use crate::respond::respond;
-use crate::{Method, Plan, Reply, Status, read_plan};
+use crate::{Plan, Reply, Status, read_plan};
+use soqe_flow::Wanted;
 use soqe_io::{Failed, Mem, Sink, Source};
 use soqe_stream::{ReadError, read_up_to, write_whole};
 use std::alloc::{AllocError, Global};
@@ -62,30 +63,28 @@ fn follow<S: Source>(alloc: Global, plan: Plan, src: &mut S) -> Mem<Reply>
     ensures { Works S.left S.faults plan src.old src.new result }
 {
     match plan {
-        Plan::Elim(method) => elim(alloc, method, src),
+        Plan::Elim(wanted) => elim(alloc, wanted, src),
     }
 }
 
-fn elim<S: Source>(alloc: Global, method: Method, src: &mut S) -> Mem<Reply>
-    ensures { Works S.left S.faults (Plan.Elim method) src.old src.new result }
+fn elim<S: Source>(alloc: Global, wanted: Wanted, src: &mut S) -> Mem<Reply>
+    ensures { Works S.left S.faults (Plan.Elim wanted) src.old src.new result }
 {
     match read_up_to(alloc, src, MAX_BYTES + 1) {
-        Ok(bytes) => Ok(reply_to(alloc, method, bytes.as_slice())?),
+        Ok(bytes) => Ok(reply_to(alloc, wanted, bytes.as_slice())?),
         Err(ReadError::Fault) => read_fault(alloc),
         Err(ReadError::Memory) => Err(AllocError),
     }
 }
 
 // The reply to all the bytes of a problem text, or to one more than it may have.
-fn reply_to(alloc: Global, method: Method, bytes: &[u8]) -> Mem<Reply>
-    ensures { IfOk result (λ reply. Replies (Plan.Elim method) bytes.now reply.status reply.text.items) }
+fn reply_to(alloc: Global, wanted: Wanted, bytes: &[u8]) -> Mem<Reply>
+    ensures { IfOk result (λ reply. Replies (Plan.Elim wanted) bytes.now reply.status reply.text.items) }
 {
     if bytes.len() as u64 > MAX_BYTES {
         return Ok(too_long(alloc)?);
     }
-    match method {
-        Method::Sign => Ok(respond(alloc, bytes)?),
-    }
+    Ok(respond(alloc, wanted, bytes)?)
 }
 
 // Writes the text, and answers its status or the fault of the sink. It takes no memory.

@@ -22,6 +22,8 @@ pub enum Status {
     WriteFault,
     /// Memory was wanting, and nothing is written.
     Memory,
+    /// No try reaches a case of a block. The document ends with the number of the case.
+    NotReached,
     /// The predicate of a block occurs with both signs. The document ends with the two places.
     Mixed,
 }
@@ -41,6 +43,7 @@ impl Status {
             Status::ReadFault => 7,
             Status::WriteFault => 8,
             Status::Memory => 9,
+            Status::NotReached => 12,
             Status::Mixed => 14,
         }
     }

@@ -38,6 +38,66 @@ result false
 end
 ";
 
+// A problem by cases, and its derivation: two cases of the normal form.
+const TWO_CASES: &[u8] = b"sort s;
+sort t;
+pred Q(t, t);
+var k:obj;
+fun a:obj;
+pred R(obj);
+var y:s;
+goal ex2 Y(obj). (R(k) -> ex x:t. ~Y(k));
+";
+
+const TWO_CASES_DERIVATION: &[u8] = b"soqe 1 elim
+sort s;
+sort t;
+pred Q(t, t);
+var k:obj;
+fun a:obj;
+pred R(obj);
+var y:s;
+goal ex2 Y(obj). (R(k) -> ex x:t. ~Y(k));
+start ex2 Y(obj). ~(R(k) & Y(k))
+block dls Y
+nnf ~R(k) | ~Y(k)
+case 1 ~R(k)
+ack pos Y(x) := false
+gives ~R(k)
+case 2 ~Y(k)
+ack pos Y(x) := false
+gives ~false
+close true
+result true
+end
+";
+
+// A set that is closed under a step: no guard says which one.
+const LOST: &[u8] = b"var k:obj;
+pred Q(obj);
+fun f(obj):obj;
+pred R(obj);
+var y:obj;
+fun a:obj;
+goal ex2 X(obj, obj). all z. (X(y, k) -> X(y, z));
+";
+
+const LOST_DERIVATION: &[u8] = b"soqe 1 elim
+var k:obj;
+pred Q(obj);
+fun f(obj):obj;
+pred R(obj);
+var y:obj;
+fun a:obj;
+goal ex2 X(obj, obj). all z. (X(y, k) -> X(y, z));
+start ex2 X(obj, obj). all z. (X(y, k) -> X(y, z))
+block dls X
+nnf all z. (~X(y, k) | X(y, z))
+case 1 all z. (~X(y, k) | X(y, z))
+stopped notreached 1
+end
+";
+
 // A goal without quantified predicates is its own result.
 const TRUE: &[u8] = b"soqe 1 elim
 goal true;
@@ -54,15 +114,26 @@ fn words_of(alloc: Global, line: &[&str]) -> Result<Vec<String>, Fail> {
     Ok(words)
 }
 
-// Runs on a source of one byte a call and a sink of ten bytes a call that fail at these calls, and gives the status and
-// what the sink took.
+// Runs by signs on a source of one byte a call and a sink of ten bytes a call that fail at these calls, and gives the status
+// and what the sink took.
 fn outcome(
     alloc: Global,
     input: &[u8],
     source_fails: &[u64],
     sink_fails: &[u64],
 ) -> Result<(Status, Vec<u8>), Fail> {
-    let words = words_of(alloc, &["soqe", "elim", "--method", "sign"])?;
+    outcome_by(alloc, "sign", input, source_fails, sink_fails)
+}
+
+// The same by a method.
+fn outcome_by(
+    alloc: Global,
+    method: &str,
+    input: &[u8],
+    source_fails: &[u64],
+    sink_fails: &[u64],
+) -> Result<(Status, Vec<u8>), Fail> {
+    let words = words_of(alloc, &["soqe", "elim", "--method", method])?;
     let mut source = MemSource::new(input.to_vec(alloc)?, 1, source_fails.to_vec(alloc)?);
     let mut sink = MemSink::new(alloc, 1000, 10, sink_fails.to_vec(alloc)?)?;
     let status = run(alloc, &words, &mut source, &mut sink);
@@ -109,6 +180,22 @@ fn an_answer_is_written_whole(rt: HostRuntime) -> Result<(), Fail> {
     ];
     for (input, status, text) in cases {
         let (ended, taken) = outcome(rt.alloc(), input, &[], &[])?;
+        assert_eq!(rt; ended, status);
+        assert_eq!(rt; taken.as_slice(), text);
+    }
+    Ok(())
+}
+
+#[test]
+fn cases_are_written_whole(rt: HostRuntime) -> Result<(), Fail> {
+    let cases: [(&[u8], Status, &[u8]); 4] = [
+        (TWO_CASES, Status::Done, TWO_CASES_DERIVATION),
+        (LOST, Status::NotReached, LOST_DERIVATION),
+        (b"goal true;", Status::Done, TRUE),
+        (b"goal ex2 P(obj). P(x);", Status::Names, b"names at 19\n"),
+    ];
+    for (input, status, text) in cases {
+        let (ended, taken) = outcome_by(rt.alloc(), "dls", input, &[], &[])?;
         assert_eq!(rt; ended, status);
         assert_eq!(rt; taken.as_slice(), text);
     }
@@ -231,6 +318,7 @@ fn statuses_have_their_numbers(rt: HostRuntime) -> Result<(), Fail> {
         (Status::ReadFault, 7),
         (Status::WriteFault, 8),
         (Status::Memory, 9),
+        (Status::NotReached, 12),
         (Status::Mixed, 14),
     ];
     for (status, number) in numbers {
