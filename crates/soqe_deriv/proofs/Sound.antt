@@ -244,6 +244,13 @@ good-reached : {rs : List Row} {t : State} → Reach start_state rs t → Good t
 good-reached none = good-start
 good-reached (more {t = t} r k) = keeps t (good-reached r) k
 
+-- what stands after valid rows is well sorted
+pub reached-sorted : {rs : List Row} {t : State} {p : Problem} {f : Form} → Reach start_state rs t → t.problem ≡ Some p → t.formula ≡ Some f
+    → sorted (sorting_of (declared_of p)) f ≡ true
+reached-sorted {t = t} {p = p} {f = f} r h k =
+    let a = (good-reached r).formula f k in
+    subst (λ q. sorted (known q) f ≡ true) (one_of a.is h) a.holds.well
+
 -- the problem that is posed last
 abbrev posed_after : Option Problem → List Row → Option Problem
 posed_after o [] = o

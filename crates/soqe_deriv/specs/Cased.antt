@@ -1,7 +1,7 @@
 -- When a line of a block by cases is valid, and what the cases have come to then.
 use Rattle.std.specs.Prelude.{◌≡◌, ℕ, suc, Bool, true, not, cond, List, [], ◌∷◌, ◌++◌, length, Option, Some, None}
 use Rattle.soqe_term.specs.declared.term.Var.{Var}
-use Rattle.soqe_form.specs.declared.form.Form.{Form, All}
+use Rattle.soqe_form.specs.declared.form.Form.{Form}
 use Rattle.soqe_form.specs.declared.form.Pred.TheVariants.{Bound}
 use Rattle.soqe_form.specs.declared.form.Block.{Block}
 use Rattle.soqe_form.specs.Same.{same}
@@ -15,6 +15,7 @@ use Rattle.soqe_ack.specs.declared.steps.DlsStep.TheVariants as step
 use Rattle.soqe_ack.specs.Acked.{IsAcked}
 use Rattle.soqe_ack.specs.GuardLaws.{AreDistinct}
 use Rattle.soqe_ack.specs.Signs.{is_pos}
+use Rattle.soqe_ack.specs.Tries.{for_all}
 use Rattle.soqe_deriv.specs.declared.document.Line.{Line}
 use Rattle.soqe_deriv.specs.declared.document.Line.TheVariants as line
 
@@ -45,11 +46,6 @@ any_for exists fs = cond exists (any_of fs) (nnf true (any_of fs))
 abbrev pub cases_come_to : Bool → Option Form → List Case → Option Present → List Form → Option Form
 cases_come_to exists (Some f) [] None given = Some (any_for exists given)
 cases_come_to exists _ _ _ given = None
-
--- the variables in front of a formula, each for all elements
-abbrev pub for_all : List Var → Form → Form
-for_all [] f = f
-for_all (x ∷ xs) f = All x (for_all xs f)
 
 -- the value is the other one, up to the numbers of the parameters, which are distinct
 pub record IsValueOf (params : List Var) (value : Form) (shown_params : List Var) (shown : Form) : Type 0 where

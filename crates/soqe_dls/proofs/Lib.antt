@@ -2,5 +2,5 @@ mod FoldedForms
 mod NewParameters
 mod Running
 mod RunTruth
-mod RunUnique
+pub mod RunUnique
 mod RunLost

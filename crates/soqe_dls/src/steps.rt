@@ -41,6 +41,13 @@ impl DlsSteps {
         self.items.as_slice()
     }
 
+    /// The steps themselves. It takes no memory.
+    pub fn into_vec(self) -> Vec<DlsStep>
+        ensures { result.items ≡ self }
+    {
+        self.items
+    }
+
     /// Adds a step at the end. After want of memory nothing has changed.
     pub fn push(&mut self, step: DlsStep) -> Mem<()>
         ensures ok { OnOk result (self.new ≡ self.old ++ step ∷ []) }
