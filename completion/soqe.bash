@@ -4,7 +4,7 @@ _soqe() {
   case "${given[*]}" in
     '') words=elim ;;
     elim) words=--method ;;
-    'elim --method') words=sign ;;
+    'elim --method') words='sign dls' ;;
   esac
   COMPREPLY=()
   local word
