@@ -160,7 +160,7 @@ fn both_signs_have_cases(rt: HostRuntime) -> Result<(), Fail> {
     let alloc = rt.alloc();
     let goal = mixed(alloc)?;
     let end = derivation(alloc, goal, Wanted::Dls)?;
-    assert!(rt; is_told(&end, b"sPnkagkagcre", None));
+    assert!(rt; is_told(&end, b"sPnkagkagkagkagcre", None));
     Ok(())
 }
 
