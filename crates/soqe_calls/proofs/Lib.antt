@@ -1,2 +1,3 @@
 mod Sizes
 mod Listing
+mod Reading

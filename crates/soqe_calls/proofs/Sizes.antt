@@ -6,7 +6,7 @@ use Rattle.soqe_term.specs.World.{changed}
 use Rattle.std.specs.Prelude.{length, slice_index}
 use Rattle.soqe_norm.specs.Apart.{binders, renumbered}
 use Rattle.soqe_calls.specs.Nodes.{nodes}
-use Rattle.soqe_calls.specs.Shapes.{wide, deep, negations}
+use Rattle.soqe_calls.specs.Shapes.{wide, bound, negations}
 
 one_part_more : (k n : ℕ) → n ≡ 10 * k + 1 → suc (n + 9) ≡ 10 * suc k + 1
 one_part_more k n e = omega (arith, e)
@@ -14,15 +14,18 @@ one_part_more k n e = omega (arith, e)
 one_more : (k n : ℕ) → n ≡ k + 1 → suc n ≡ suc k + 1
 one_more k n e = omega (arith, e)
 
+one_deeper : (k m n : ℕ) → n ≡ k + m → suc n ≡ suc k + m
+one_deeper k m n e = omega (arith, e)
+
 pub nodes-wide : (k : ℕ) → nodes (wide k) ≡ 10 * k + 1
 unfolding boxes
 nodes-wide zero = refl
 nodes-wide (suc k) = one_part_more k (nodes (wide k)) (nodes-wide k)
 
-pub nodes-deep : (k : ℕ) → nodes (deep k) ≡ k + 1
+pub nodes-bound : (k : ℕ) (f : Form) → nodes (bound k f) ≡ k + nodes f
 unfolding boxes
-nodes-deep zero = refl
-nodes-deep (suc k) = one_more k (nodes (deep k)) (nodes-deep k)
+nodes-bound zero f = omega arith
+nodes-bound (suc k) f = one_deeper k (nodes f) (nodes (bound k f)) (nodes-bound k f)
 
 pub nodes-negations : (k : ℕ) → nodes (negations k) ≡ k + 1
 unfolding boxes

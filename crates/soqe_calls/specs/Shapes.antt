@@ -8,7 +8,7 @@ use Rattle.soqe_term.specs.declared.term.Terms.{Terms, Nil, Cons}
 use Rattle.soqe_form.specs.declared.form.Pred.TheVariants.{Decl}
 use Rattle.soqe_form.specs.declared.form.Form.{Form, True, Equal, Atom, Not, And, Imp, All, Ex}
 use Rattle.soqe_calls.specs.declared.words.Shape.{Shape}
-use Rattle.soqe_calls.specs.declared.words.Shape.TheVariants.{Wide, Deep, Negations}
+use Rattle.soqe_calls.specs.declared.words.Shape.TheVariants.{Wide, Deep, Mixed, Negations}
 
 -- the variable with a number, of the first sort
 abbrev pub variable : ℕ → Var
@@ -40,10 +40,10 @@ wide (suc k) = And (wide k) (part k)
 abbrev pub core : Form
 core = Atom (Decl 2) (with_first 0 (with_first 1 (with_first 2 (with_first 3 Nil))))
 
--- binders of three variables in turn before an atom
-abbrev pub deep : ℕ → Form
-deep zero = core
-deep (suc k) = All (variable (k % 3)) (deep k)
+-- binders of three variables in turn before a formula
+abbrev pub bound : ℕ → Form → Form
+bound zero f = f
+bound (suc k) f = All (variable (k % 3)) (bound k f)
 
 -- negations of an atom
 abbrev pub negations : ℕ → Form
@@ -53,11 +53,13 @@ negations (suc k) = Not (negations k)
 -- the formula of a shape and a size
 abbrev pub shaped : Shape → ℕ → Form
 shaped Wide n = wide (n / 10)
-shaped Deep n = deep (n / 4)
+shaped Deep n = bound (n / 4) core
+shaped Mixed n = bound (n / 8) (wide (n / 20))
 shaped Negations n = negations n
 
 -- how many nodes the formula of a shape and a size has
 abbrev pub size_of : Shape → ℕ → ℕ
 size_of Wide n = 10 * (n / 10) + 1
 size_of Deep n = n / 4 + 1
+size_of Mixed n = n / 8 + (10 * (n / 20) + 1)
 size_of Negations n = n + 1

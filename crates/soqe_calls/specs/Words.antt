@@ -1,16 +1,21 @@
 -- What the words ask for.
 use Rattle.std.specs.Prelude.{ℕ, List, Option, None, Some, if◌then◌else◌, codes}
+use Rattle.std.specs.Option.{option_or}
 use Rattle.std.specs.Str.{bytes_eq}
 use Rattle.soqe_calls.specs.declared.words.Call.{Call}
-use Rattle.soqe_calls.specs.declared.words.Call.TheVariants.{Nothing, Nodes, FreeVars, Copy, Same, Tidy, Subst, SubstRenaming, Apart, Nnf}
+use Rattle.soqe_calls.specs.declared.words.Call.TheVariants.{Nothing, Nodes, FreeVars, Copy, Same, Tidy, Subst, SubstRenaming, Apart, Nnf, Simplify}
 use Rattle.soqe_calls.specs.declared.words.Shape.{Shape}
-use Rattle.soqe_calls.specs.declared.words.Shape.TheVariants.{Wide, Deep, Negations}
+use Rattle.soqe_calls.specs.declared.words.Shape.TheVariants.{Wide, Deep, Mixed, Negations}
+use Rattle.soqe_calls.specs.declared.words.Plan.{Plan}
+use Rattle.soqe_calls.specs.declared.words.Plan.TheVariants.{Numbers, LeastUnused, Formula, Cases, Text}
+use Rattle.soqe_calls.specs.declared.words.TextCall.TheVariants as text
 
 -- the shape of this name
 abbrev pub shape_named : List ℕ → Option Shape
 shape_named name =
     if bytes_eq name (codes "wide") then Some Wide
     else if bytes_eq name (codes "deep") then Some Deep
+    else if bytes_eq name (codes "mixed") then Some Mixed
     else if bytes_eq name (codes "negations") then Some Negations
     else None
 
@@ -32,4 +37,40 @@ making_named name =
     else if bytes_eq name (codes "subst_renaming") then Some SubstRenaming
     else if bytes_eq name (codes "apart") then Some Apart
     else if bytes_eq name (codes "nnf") then Some Nnf
+    else if bytes_eq name (codes "simplify") then Some Simplify
     else None
+
+-- the call of this name
+abbrev pub call_named : List ℕ → Option Call
+call_named name = option_or (asking_named name) (making_named name)
+
+-- the plan of the name of a call on a list
+abbrev pub list_plan : List ℕ → ℕ → Option Plan
+list_plan name size =
+    if bytes_eq name (codes "none") then Some (Numbers size)
+    else if bytes_eq name (codes "least_unused") then Some (LeastUnused size)
+    else None
+
+-- the plan of the name of a call that gives cases, or on a problem or its text
+abbrev pub other_plan : List ℕ → Shape → ℕ → Option Plan
+other_plan name shape size =
+    if bytes_eq name (codes "cases") then Some (Cases shape size)
+    else if bytes_eq name (codes "problem") then Some (Text text.Problem shape size)
+    else if bytes_eq name (codes "print") then Some (Text text.Print shape size)
+    else if bytes_eq name (codes "read") then Some (Text text.Read shape size)
+    else None
+
+-- the plan of a call on a formula, or else another one
+abbrev pub formula_plan : Option Call → Option Plan → Shape → ℕ → Option Plan
+formula_plan (Some call) other shape size = Some (Formula call shape size)
+formula_plan None other shape size = other
+
+-- the plan of the name of a call on a shape
+abbrev pub shape_plan : List ℕ → Option Shape → ℕ → Option Plan
+shape_plan name None size = None
+shape_plan name (Some shape) size = formula_plan (call_named name) (other_plan name shape size) shape size
+
+-- the plan of the names of a call and a shape, and of a size
+abbrev pub plan_named : List ℕ → List ℕ → ℕ → Option Plan
+plan_named call shape size =
+    if bytes_eq shape (codes "list") then list_plan call size else shape_plan call (shape_named shape) size

@@ -5,23 +5,30 @@ ghost use Rattle.std.specs.Prelude.{◌≡◌, IfOk, [], false, length};
 ghost use Rattle.soqe_form.specs.FreeVars.{free_vars as free_vars_of};
 ghost use Rattle.soqe_form.specs.Tidy.{tidy as tidy_form};
 ghost use Rattle.soqe_norm.specs.Nnf.{nnf as normal};
+ghost use Rattle.soqe_simp.specs.Simplified.{simplify as simple};
 ghost use Rattle.soqe_calls.specs.Nodes.{nodes as nodes_of};
-ghost use Rattle.soqe_calls.specs.Answers.{answer as answer_of, with_image};
+ghost use Rattle.soqe_calls.specs.Answers.{answer as answer_of, with_image, CountsCases};
+ghost use Rattle.soqe_calls.specs.Plans.{AnswersPlan};
 
-use crate::nodes::nodes;
+use crate::nodes::count_nodes;
 use crate::shapes::{image, list, numbered, shaped};
+use crate::texts::answer_text;
 use crate::words::{Call, Plan};
-use soqe_form::{Form, copy_boxed, free_vars, same, subst, tidy};
+use soqe_form::{Form, Pred, copy_boxed, free_vars, same, subst, tidy};
 use soqe_norm::apart::apart;
+use soqe_norm::cases::cases;
 use soqe_norm::nnf::nnf;
+use soqe_simp::simplify;
 use soqe_term::{Mem, Nums, least_unused};
 use sqlite_items::Boxed;
-use std::alloc::{AllocError, Global};
+use std::alloc::Global;
 
 /// Does what the plan asks for.
-pub fn follow(alloc: Global, plan: Plan) -> Mem<u64> {
+pub fn follow(alloc: Global, plan: Plan) -> Mem<u64>
+    ensures { IfOk result (λ n. AnswersPlan plan n) }
+{
     match plan {
-        Plan::List(count) => {
+        Plan::Numbers(count) => {
             let _nums = list(alloc, count)?;
             Ok(0)
         }
@@ -30,6 +37,11 @@ pub fn follow(alloc: Global, plan: Plan) -> Mem<u64> {
             let form = shaped(alloc, shape, size)?;
             answer(alloc, call, &form)
         }
+        Plan::Cases(shape, size) => {
+            let form = shaped(alloc, shape, size)?;
+            split_in_cases(alloc, &form)
+        }
+        Plan::Text(call, shape, size) => answer_text(alloc, call, shape, size),
     }
 }
 
@@ -56,17 +68,14 @@ pub fn answer(alloc: Global, call: Call, form: &Boxed<Form>) -> Mem<u64>
         Call::SubstRenaming => substituted(alloc, form, 0),
         Call::Apart => set_apart(alloc, form),
         Call::Nnf => normalised(alloc, form),
+        Call::Simplify => simplified(alloc, form),
     }
 }
 
-/// How many nodes there are. Want of memory stands for 2^64 and more, which no memory holds.
 fn count(form: &Boxed<Form>) -> Mem<u64>
     ensures { IfOk result (λ n. n ≡ nodes_of form.now) }
 {
-    match nodes(form.get()) {
-        Some(count) => Ok(count),
-        None => Err(AllocError),
-    }
+    count_nodes(form.get())
 }
 
 fn free_variables(alloc: Global, form: &Boxed<Form>) -> Mem<u64>
@@ -125,4 +134,20 @@ fn normalised(alloc: Global, form: &Boxed<Form>) -> Mem<u64>
 {
     let made = nnf(alloc, form.get(), false)?;
     count(&made)
+}
+
+fn simplified(alloc: Global, form: &Boxed<Form>) -> Mem<u64>
+    ensures { IfOk result (λ n. n ≡ nodes_of (simple form.now)) }
+{
+    let made = simplify(alloc, form.get())?;
+    count(&made)
+}
+
+/// How many cases there are for the predicate of all parts.
+fn split_in_cases(alloc: Global, form: &Boxed<Form>) -> Mem<u64>
+    ensures { IfOk result (λ n. CountsCases form.now n) }
+{
+    let keep = Nums::new(alloc);
+    let made = cases(alloc, form.get(), &Pred::Decl(0), &keep)?;
+    Ok(made.len() as u64)
 }

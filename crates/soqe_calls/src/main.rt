@@ -1,15 +1,19 @@
-//! Single calls, to be measured: `soqe_calls CALL SHAPE N` makes a formula or a list, makes the call on it, and writes a
-//! number that shows that it was made.
+//! Single calls, to be measured: `soqe_calls CALL SHAPE N` makes a formula, a problem or a list, makes the call on it, and
+//! writes a number that shows that it was made.
 //!
 //! - `words`: which words are taken
 //! - `shapes`: the list and the formulas
 //! - `nodes`: how many nodes a formula has
-//! - `calls`: the calls, each with its number
+//! - `problems`: the problems whose goals are the formulas
+//! - `texts`: the calls on texts, each with its number
+//! - `calls`: the other calls, each with its number
 #![tactic(auto)]
 
 mod calls;
 mod nodes;
+mod problems;
 mod shapes;
+mod texts;
 mod words;
 
 use calls::follow;

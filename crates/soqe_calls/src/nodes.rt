@@ -1,13 +1,25 @@
 //! How many nodes a formula has.
 #![tactic(auto, unfolding(soqe_form::specs::Boxes::boxes))]
 
-ghost use Rattle.std.specs.Prelude.{◌≡◌, ◌≤◌, ◌+◌, ◌^◌, MatchOption};
+ghost use Rattle.std.specs.Prelude.{◌≡◌, ◌≤◌, ◌+◌, ◌^◌, MatchOption, IfOk};
 ghost use Rattle.soqe_calls.specs.Nodes.{nodes as nodes_of};
 
 use soqe_form::Form;
+use soqe_term::Mem;
+use std::alloc::AllocError;
+
+/// How many nodes the formula has. Want of memory stands for 2^64 and more, which no memory holds. It takes no memory.
+pub fn count_nodes(form: &Form) -> Mem<u64>
+    ensures { IfOk result (λ n. n ≡ nodes_of form.now) }
+{
+    match nodes(form) {
+        Some(count) => Ok(count),
+        None => Err(AllocError),
+    }
+}
 
 /// How many nodes the formula has, or nothing where there are 2^64 or more. It takes no memory.
-pub fn nodes(form: &Form) -> Option<u64>
+fn nodes(form: &Form) -> Option<u64>
     ensures { MatchOption result (2 ^ 64 ≤ nodes_of form.now) (λ n. n ≡ nodes_of form.now) }
 {
     counted(form, 0)

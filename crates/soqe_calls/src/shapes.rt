@@ -8,7 +8,7 @@ ghost use Rattle.soqe_form.specs.declared.form.Pred.TheVariants.{Decl};
 ghost use Rattle.soqe_form.specs.declared.form.Form.{Equal, Atom, Not};
 ghost use Rattle.soqe_calls.specs.Listed.{AreBelow};
 ghost use Rattle.soqe_calls.specs.Nodes.{nodes};
-ghost use Rattle.soqe_calls.specs.Shapes.{variable, with_first as with_first_of, image as image_of, part as part_of, core as core_of, wide as wide_of, deep as deep_of, negations as negations_of, shaped as shaped_of, size_of};
+ghost use Rattle.soqe_calls.specs.Shapes.{variable, with_first as with_first_of, image as image_of, part as part_of, core as core_of, wide as wide_of, bound as bound_of, negations as negations_of, shaped as shaped_of, size_of};
 
 use crate::words::Shape;
 use soqe_form::make::{conjunction, constant, exists, for_all, implication, negation};
@@ -36,6 +36,7 @@ pub fn shaped(alloc: Global, shape: Shape, size: u32) -> Mem<Boxed<Form>>
     match shape {
         Shape::Wide => wide(alloc, size / 10),
         Shape::Deep => deep(alloc, size / 4),
+        Shape::Mixed => mixed(alloc, size / 8, size / 20),
         Shape::Negations => negations(alloc, size),
     }
 }
@@ -52,11 +53,27 @@ fn wide(alloc: Global, parts: u32) -> Mem<Boxed<Form>>
     Ok(made)
 }
 
-/// So many quantifiers of three variables before an atom.
+/// So many quantifiers before an atom.
 fn deep(alloc: Global, binders: u32) -> Mem<Boxed<Form>>
-    ensures { IfOk result (λ f. f ≡ deep_of binders) }
+    ensures { IfOk result (λ f. f ≡ bound_of binders core_of) }
 {
-    let mut made = core(alloc)?;
+    let atom = core(alloc)?;
+    bound(alloc, binders, atom)
+}
+
+/// So many quantifiers before a conjunction of so many parts.
+fn mixed(alloc: Global, binders: u32, parts: u32) -> Mem<Boxed<Form>>
+    ensures { IfOk result (λ f. f ≡ bound_of binders (wide_of parts)) }
+{
+    let body = wide(alloc, parts)?;
+    bound(alloc, binders, body)
+}
+
+/// So many quantifiers of three variables before a formula.
+fn bound(alloc: Global, binders: u32, body: Boxed<Form>) -> Mem<Boxed<Form>>
+    ensures { IfOk result (λ f. f ≡ bound_of binders body) }
+{
+    let mut made = body;
     for k in 0..binders {
         made = for_all(alloc, numbered(u64::from(k % 3)), made)?;
     }

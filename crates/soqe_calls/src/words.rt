@@ -1,7 +1,7 @@
 //! What the words ask for.
 
-ghost use Rattle.std.specs.Prelude.{◌≡◌, ◌≢◌, length, IfSome};
-ghost use Rattle.soqe_calls.specs.Words.{shape_named, asking_named, making_named};
+ghost use Rattle.std.specs.Prelude.{◌≡◌, length, IfSome};
+ghost use Rattle.soqe_calls.specs.Words.{shape_named, asking_named, making_named, call_named, list_plan, formula_plan, other_plan, shape_plan, plan_named};
 
 /// A call on a formula.
 #[derive(Clone, Copy, Debug, PartialEq, Eq)]
@@ -21,6 +21,18 @@ pub enum Call {
     SubstRenaming,
     Apart,
     Nnf,
+    Simplify,
+}
+
+/// A call on a problem or on its text.
+#[derive(Clone, Copy, Debug, PartialEq, Eq)]
+pub enum TextCall {
+    /// No call: the problem is made alone.
+    Problem,
+    /// The problem is printed.
+    Print,
+    /// The text that was printed is read.
+    Read,
 }
 
 /// What a formula looks like.
@@ -30,6 +42,8 @@ pub enum Shape {
     Wide,
     /// Quantifiers before an atom.
     Deep,
+    /// Quantifiers before a conjunction of parts.
+    Mixed,
     /// Negations before an atom.
     Negations,
 }
@@ -37,12 +51,16 @@ pub enum Shape {
 /// What the words ask for.
 #[derive(Clone, Copy, Debug, PartialEq, Eq)]
 pub enum Plan {
-    /// Make a list of numbers.
-    List(u32),
+    /// Make a list of so many numbers.
+    Numbers(u32),
     /// Make it, and look for the least number that it lacks.
     LeastUnused(u32),
     /// Make a formula of a shape and about so many nodes, and call.
     Formula(Call, Shape, u32),
+    /// Make the formula, and the cases of it for the predicate of all parts.
+    Cases(Shape, u32),
+    /// Make a problem with that goal, and call.
+    Text(TextCall, Shape, u32),
 }
 
 /// The plan of the words, the program's name first, or nothing where they aren't taken. It takes no memory.
@@ -54,19 +72,27 @@ pub fn read_plan(words: &[String]) -> Option<Plan>
             let Ok(size) = size.as_str().parse::<u32>() else {
                 return None;
             };
-            if shape.as_str() == "list" {
-                read_list(call.as_str(), size)
-            } else {
-                read_formula(call.as_str(), shape.as_str(), size)
-            }
+            plan_of(call.as_str(), shape.as_str(), size)
         }
         _ => None,
     }
 }
 
-fn read_list(call: &str, size: u32) -> Option<Plan> {
+fn plan_of(call: &str, shape: &str, size: u32) -> Option<Plan>
+    ensures { result ≡ plan_named call.now shape.now size }
+{
+    if shape == "list" {
+        read_list(call, size)
+    } else {
+        read_on_shape(call, shape, size)
+    }
+}
+
+fn read_list(call: &str, size: u32) -> Option<Plan>
+    ensures { result ≡ list_plan call.now size }
+{
     if call == "none" {
-        Some(Plan::List(size))
+        Some(Plan::Numbers(size))
     } else if call == "least_unused" {
         Some(Plan::LeastUnused(size))
     } else {
@@ -74,11 +100,46 @@ fn read_list(call: &str, size: u32) -> Option<Plan> {
     }
 }
 
-fn read_formula(call: &str, shape: &str, size: u32) -> Option<Plan> {
-    let shape = read_shape(shape)?;
-    match read_asking(call) {
+fn read_on_shape(call: &str, shape: &str, size: u32) -> Option<Plan>
+    ensures { result ≡ shape_plan call.now (shape_named shape.now) size }
+{
+    match read_shape(shape) {
+        Some(shape) => read_on_formula(call, shape, size),
+        None => None,
+    }
+}
+
+fn read_on_formula(call: &str, shape: Shape, size: u32) -> Option<Plan>
+    ensures { result ≡ formula_plan (call_named call.now) (other_plan call.now shape size) shape size }
+{
+    match read_call(call) {
         Some(call) => Some(Plan::Formula(call, shape, size)),
-        None => Some(Plan::Formula(read_making(call)?, shape, size)),
+        None => read_other(call, shape, size),
+    }
+}
+
+fn read_other(call: &str, shape: Shape, size: u32) -> Option<Plan>
+    ensures { result ≡ other_plan call.now shape size }
+{
+    if call == "cases" {
+        Some(Plan::Cases(shape, size))
+    } else if call == "problem" {
+        Some(Plan::Text(TextCall::Problem, shape, size))
+    } else if call == "print" {
+        Some(Plan::Text(TextCall::Print, shape, size))
+    } else if call == "read" {
+        Some(Plan::Text(TextCall::Read, shape, size))
+    } else {
+        None
+    }
+}
+
+fn read_call(name: &str) -> Option<Call>
+    ensures { result ≡ call_named name.now }
+{
+    match read_asking(name) {
+        Some(call) => Some(call),
+        None => read_making(name),
     }
 }
 
@@ -89,6 +150,8 @@ fn read_shape(name: &str) -> Option<Shape>
         Some(Shape::Wide)
     } else if name == "deep" {
         Some(Shape::Deep)
+    } else if name == "mixed" {
+        Some(Shape::Mixed)
     } else if name == "negations" {
         Some(Shape::Negations)
     } else {
@@ -127,6 +190,8 @@ fn read_making(name: &str) -> Option<Call>
         Some(Call::Apart)
     } else if name == "nnf" {
         Some(Call::Nnf)
+    } else if name == "simplify" {
+        Some(Call::Simplify)
     } else {
         None
     }

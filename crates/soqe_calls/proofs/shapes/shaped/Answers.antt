@@ -1,8 +1,8 @@
-use Rattle.std.proofs.Common.{◌∙◌, ◌/◌, ap, sym}
+use Rattle.std.proofs.Common.{◌∙◌, ◌/◌, ◌+◌, ap, sym}
 use Rattle.std.proofs.lemmas.Result.{IfOk-weaker}
 use Rattle.soqe_calls.specs.Nodes.{nodes}
-use Rattle.soqe_calls.specs.Shapes.{size_of}
-use Rattle.soqe_calls.proofs.Sizes.{nodes-wide, nodes-deep, nodes-negations}
+use Rattle.soqe_calls.specs.Shapes.{core, wide, size_of}
+use Rattle.soqe_calls.proofs.Sizes.{nodes-wide, nodes-bound, nodes-negations}
 use Rattle.soqe_calls.proofs.shapes.shaped.Goals as goal
 
 pub returns-in-Wide-clause-nodes : goal.returns-in-Wide-clause-nodes
@@ -11,7 +11,14 @@ returns-in-Wide-clause-nodes c =
 
 pub returns-in-Deep-clause-nodes : goal.returns-in-Deep-clause-nodes
 returns-in-Deep-clause-nodes c =
-    IfOk-weaker c.deep.result _ _ (λ f e. ap nodes e ∙ nodes-deep (c.args.size / 4) ∙ ap (λ s. size_of s c.args.size) (sym c.in-Deep.is)) c.deep.ensures
+    IfOk-weaker c.deep.result _ _ (λ f e. ap nodes e ∙ nodes-bound (c.args.size / 4) core ∙ ap (λ s. size_of s c.args.size) (sym c.in-Deep.is)) c.deep.ensures
+
+pub returns-in-Mixed-clause-nodes : goal.returns-in-Mixed-clause-nodes
+returns-in-Mixed-clause-nodes c =
+    IfOk-weaker c.mixed.result _ _
+    (λ f e. ap nodes e ∙ nodes-bound (c.args.size / 8) (wide (c.args.size / 20)) ∙ ap (λ m. c.args.size / 8 + m) (nodes-wide (c.args.size / 20))
+    ∙ ap (λ s. size_of s c.args.size) (sym c.in-Mixed.is))
+    c.mixed.ensures
 
 pub returns-in-Negations-clause-nodes : goal.returns-in-Negations-clause-nodes
 returns-in-Negations-clause-nodes c =
