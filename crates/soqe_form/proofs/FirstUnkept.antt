@@ -1,9 +1,15 @@
 -- The least numbers that fail a test: how their list grows.
-use Rattle.std.proofs.Common.{◌≡◌, ℕ, ◌+◌, ◌<◌, ⊎_elim, Bool, true, false, ◌||◌, List, [], ◌∷◌, ◌++◌, ◌≤◌, length, length-append, refl, sym, ◌∙◌, ap, subst, arith}
+use Rattle.std.proofs.Common.{◌≡◌, ℕ, ◌+◌, ◌<◌, ⊎_elim, Bool, true, false, List, [], ◌∷◌, ◌++◌, ◌≤◌, ◌||◌, length, length-append, refl, sym, ◌∙◌, ap, subst, arith}
 use Rattle.std.specs.Prelude.{slice_index}
 use Rattle.std.proofs.lemmas.Bool.{cases_lt, both_ways}
 use Rattle.std.proofs.lemmas.List.{get_or_append_left, get_or_push}
+use Rattle.soqe_term.specs.Unused.{member}
+use Rattle.soqe_form.specs.Marks.{IsLeastWithout}
 use Rattle.soqe_form.specs.Unkept.{IsBefore, AreFirst}
+
+pub or_second : (b c : Bool) → (b ≡ false → c ≡ true) → (b || c) ≡ true
+or_second true c h = refl
+or_second false c h = h refl
 
 -- each number below n that fails is in the list
 abbrev pub HasBelow : (ℕ → Bool) → List ℕ → ℕ → Type 0
@@ -39,3 +45,12 @@ has-more p ns n h k l f =
 pub has-passed : (p : ℕ → Bool) (ns : List ℕ) (n : ℕ) → p n ≡ true → HasBelow p ns n → HasBelow p ns (n + 1)
 has-passed p ns n e h k l f =
     ⊎_elim (λ lt. h k lt f) (λ le. let same : k ≡ n = omega arith in absurd (both_ways (p k) f (ap p same ∙ e))) (cases_lt k n)
+
+-- where the numbers in front of the one at i are in a list and that one is not, it is the least that neither passes nor is in the list
+pub first-beside : (p : ℕ → Bool) (ns ms : List ℕ) (i n : ℕ) → i < length ns → n ≡ slice_index ns i → member n ms ≡ false → ((j : ℕ) → j < i → member (slice_index ns j) ms ≡ true)
+    → AreFirst p ns → IsLeastWithout (λ m. p m || member m ms) n
+first-beside p ns ms i n l is none before a = record {
+  fails = λ k. (ap p is ∙ a.fail i l) k || none k;
+  below = λ k lt. or_second (p k) (member k ms)
+      (λ e. let b = a.first i k l (subst (λ m. k < m) is lt) e in ap (λ m. member m ms) (sym b.2) ∙ before b.0 b.1);
+}

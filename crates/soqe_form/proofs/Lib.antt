@@ -4,10 +4,12 @@ pub mod Tables
 pub mod Sortings
 pub mod Places
 pub mod FirstBlocks
+pub mod BlockCounts
 pub mod Found
 pub mod Pures
 pub mod FreeVariables
 pub mod Marked
+pub mod Counted
 pub mod Binders
 pub mod Renamings
 pub mod Substitutions
@@ -15,7 +17,10 @@ pub mod SubstitutedSorts
 pub mod Substituting
 pub mod SubLaws
 pub mod Visibles
-pub mod NumbersOf
+pub mod NumbersListed
+pub mod UsesCounted
+pub mod Tallied
+pub mod Ordered
 pub mod TidyNumbers
 pub mod TidyBinders
 pub mod Tidied

@@ -1,10 +1,10 @@
 -- What a map of marks says of each number.
-use Rattle.std.proofs.Common.{◌≡◌, ℕ, suc, ◌<◌, ◌≤◌, ◌+◌, Bool, true, false, cond, eqb, ◌||◌, List, [], ◌∷◌, ◌++◌, length, length-append, take, get_or, ⊎_elim, Option, Some, refl, sym, ◌∙◌, ap, subst, arith}
+use Rattle.std.proofs.Common.{◌≡◌, ℕ, suc, ◌<◌, ◌≤◌, ◌+◌, Bool, true, false, cond, eqb, ◌||◌, List, [], ◌∷◌, length, take, get_or, Option, Some, refl, sym, ◌∙◌, ap, subst, arith}
 use Rattle.std.specs.Map.{lookup, keys_of}
 use Rattle.std.specs.Option.{unwrap_or}
 use Rattle.std.specs.List.{list_any}
-use Rattle.std.proofs.lemmas.Bool.{eqb-true, eqb-false, eq-eqb, or_cases, or_left, or_right}
-use Rattle.std.proofs.lemmas.List.Folds.{list_any-append, list_any_more}
+use Rattle.std.proofs.lemmas.Bool.{eqb-true, eqb-false, eq-eqb}
+use Rattle.std.proofs.lemmas.List.Folds.{list_any_more}
 use Rattle.std.proofs.lemmas.List.{length-map}
 use Rattle.std.proofs.lemmas.Map.Steps.{le-length_from_below}
 use Rattle.soqe_term.proofs.Choices.{same_test, bool_cases}
@@ -30,11 +30,11 @@ key_step true mark o c h k = refl
 key_step false mark o c h k = h k
 
 -- a number with a mark is a key
-marked-key : (n : ℕ) (marks : List (ℕ × Bool)) → unwrap_or (lookup (eqb n) marks) false ≡ true → list_any (eqb n) (keys_of marks) ≡ true
+pub marked-key : (n : ℕ) (marks : List (ℕ × Bool)) → unwrap_or (lookup (eqb n) marks) false ≡ true → list_any (eqb n) (keys_of marks) ≡ true
 marked-key n [] h = h
 marked-key n (m ∷ marks) h = key_step (eqb n m.0) m.1 (lookup (eqb n) marks) (list_any (eqb n) (keys_of marks)) (marked-key n marks) h
 
-one_more : (p : ℕ → Bool) (n : ℕ) → ((k : ℕ) → k < n → p k ≡ true) → p n ≡ true → (k : ℕ) → k < suc n → p k ≡ true
+pub one_more : (p : ℕ → Bool) (n : ℕ) → ((k : ℕ) → k < n → p k ≡ true) → p n ≡ true → (k : ℕ) → k < suc n → p k ≡ true
 one_more p n h e k l = bool_cases (λ q. eqb k n ≡ q → p k ≡ true) (eqb k n) (λ o q. ap p (eqb-true k n q) ∙ e)
     (λ o q. let ne : k ≡ n → ⊥ = eqb-false k n q in h k (omega arith)) refl
 
@@ -56,27 +56,6 @@ pub least_of_tried : (marks now : List (ℕ × Bool)) (count n : ℕ) → marks 
 least_of_tried marks now count n view len enough h =
     let all : (k : ℕ) → k < length now → marked now k ≡ true = λ k l. h k (omega (arith, len, ap length view)) in
     subst (λ m. IsLeastWithout (marked now) m) (sym (len ∙ ap length view)) (least_of_all now all)
-
--- a number with one of two marks is one of the keys
-either_key : (n : ℕ) (a b : List (ℕ × Bool)) → (marked a n || marked b n) ≡ true → list_any (eqb n) (keys_of a ++ keys_of b) ≡ true
-unfolding marked
-either_key n a b h =
-    list_any-append (eqb n) (keys_of a) (keys_of b)
-    ∙ ⊎_elim (λ e. or_left (list_any (eqb n) (keys_of a)) (list_any (eqb n) (keys_of b)) (marked-key n a e))
-    (λ e. or_right (list_any (eqb n) (keys_of a)) (list_any (eqb n) (keys_of b)) (marked-key n b e)) (or_cases (marked a n) (marked b n) h)
-
--- where each number below the sum of the lengths has one of two marks, the sum has neither
-pub least_of_both : (a b : List (ℕ × Bool)) (count : ℕ) → count ≡ length a + length b → ((k : ℕ) → k < count → (marked a k || marked b k) ≡ true)
-    → IsLeastWithout (λ n. marked a n || marked b n) count
-least_of_both a b count len h = record {
-  fails = bool_cases (λ q. (marked a count || marked b count) ≡ q → q ≡ false) (marked a count || marked b count)
-      (λ o e.
-      let more : suc count ≤ length (keys_of a ++ keys_of b) =
-      le-length_from_below (keys_of a ++ keys_of b) (suc count) (λ k l. either_key k a b (one_more (λ n. marked a n || marked b n) count h e k l)) in
-      absurd (omega (arith, more, length-append (keys_of a) (keys_of b), length-map a (λ (e : ℕ × Bool). e.0), length-map b (λ (e : ℕ × Bool). e.0))))
-      (λ o e. refl) refl;
-  below = h;
-}
 
 -- ---- marks that are added
 

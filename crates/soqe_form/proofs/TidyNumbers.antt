@@ -4,20 +4,20 @@ use Rattle.std.proofs.Common.{◌≡◌, ℕ, zero, suc, ◌+◌, ◌<◌, ◌�
 use Rattle.std.specs.List.{list_any}
 use Rattle.std.proofs.lemmas.List.{length-map}
 use Rattle.std.proofs.lemmas.List.Folds.{list_any-append}
-use Rattle.std.proofs.lemmas.Bool.{cases_lt, eqb-true, eq-eqb, or_cases, or_left, or_right, both_ways}
+use Rattle.std.proofs.lemmas.Bool.{cases_lt, eqb-true, or_cases, or_left, or_right, both_ways}
 use Rattle.soqe_term.specs.declared.term.Var.{Var}
 use Rattle.soqe_term.specs.Occurs.{first_from}
 use Rattle.soqe_term.specs.Unused.{member}
-use Rattle.soqe_term.proofs.Choices.{by_cases, bool_cases, same_test, or_none_second}
+use Rattle.soqe_term.proofs.Choices.{by_cases, bool_cases, or_none_second}
 use Rattle.soqe_term.proofs.Renumbered.{eqb_sym}
 use Rattle.soqe_term.proofs.Pigeons.{few_numbers, next_too}
 use Rattle.soqe_form.specs.declared.form.Form.{Form}
 use Rattle.soqe_form.specs.Free.{free}
 use Rattle.soqe_form.specs.FreeVars.{others, free_occurrences, is_among}
 use Rattle.soqe_form.specs.Marks.{IsLeastWithout}
+use Rattle.soqe_form.specs.Numbers.{new_numbers}
 use Rattle.soqe_form.specs.Tidy.{is_taken, tidy_number}
-use Rattle.soqe_form.specs.FreeLists.{ListsFree}
-use Rattle.soqe_form.proofs.FreeVariables.{is_among-free_occurrences, is_among-others}
+use Rattle.soqe_form.proofs.FreeVariables.{is_among-free_occurrences}
 
 -- ---- the first number that passes a test
 
@@ -38,7 +38,7 @@ first_from-within p i (suc k) =
     let rest = first_from-within p (suc i) k in
     by_cases (λ n. n ≤ i + suc k) (p i) i (first_from p (suc i) k) (λ e. omega arith) (λ e. omega arith)
 
-from_not : (b : Bool) → not b ≡ true → b ≡ false
+pub from_not : (b : Bool) → not b ≡ true → b ≡ false
 from_not true h = sym h
 from_not false h = refl
 
@@ -66,10 +66,6 @@ least-one p m n h k =
     (λ le. ⊎_elim (λ lt. absurd (both_ways (p n) k.fails (h.below n lt))) (λ more. omega arith) (cases_lt n m)) (cases_lt m n)
 
 -- ---- the numbers that are taken
-
--- the new numbers of variables
-abbrev pub new_numbers : (ℕ → ℕ) → List Var → List ℕ
-new_numbers r ys = map (λ y. r y.num) ys
 
 any-mapped : (r : ℕ → ℕ) (n : ℕ) (ys : List Var) → list_any (λ y. eqb n (r y.num)) ys ≡ member n (new_numbers r ys)
 any-mapped r n [] = refl
@@ -103,31 +99,11 @@ tidy_number-least keep r x f =
 
 -- ---- what a test finds among numbers
 
--- a number of the list that passes
-record Finding (q : ℕ → Bool) (ns : List ℕ) : Type 0 where
-  pub number : ℕ
-  pub there : member number ns ≡ true
-  pub passes : q number ≡ true
-
-finding : (q : ℕ → Bool) (ns : List ℕ) → list_any q ns ≡ true → Finding q ns
-finding q [] h = let h : false ≡ true = h in cc
-finding q (m ∷ ns) h =
-    ⊎_elim (λ e. record { number = m; there = or_left (eqb m m) (member m ns) (eq-eqb m m refl); passes = e })
-    (λ e. let rest = finding q ns e in record { number = rest.number; there = or_right (eqb rest.number m) (member rest.number ns) rest.there; passes = rest.passes })
-    (or_cases (q m) (list_any q ns) h)
-
 finds : (q : ℕ → Bool) (ns : List ℕ) (m : ℕ) → member m ns ≡ true → q m ≡ true → list_any q ns ≡ true
 finds q [] m h e = h
 finds q (n ∷ ns) m h e =
     ⊎_elim (λ same. or_left (q n) (list_any q ns) (ap q (sym (eqb-true m n same)) ∙ e))
     (λ there. or_right (q n) (list_any q ns) (finds q ns m there e)) (or_cases (eqb m n) (member m ns) h)
-
--- lists with the same numbers are the same to a test
-pub any-same : (q : ℕ → Bool) (ms ns : List ℕ) → ((k : ℕ) → member k ms ≡ member k ns) → list_any q ms ≡ list_any q ns
-any-same q ms ns h =
-    same_test (list_any q ms) (list_any q ns)
-    (λ e. let k = finding q ms e in finds q ns k.number (sym (h k.number) ∙ k.there) k.passes)
-    (λ e. let k = finding q ns e in finds q ms k.number (h k.number ∙ k.there) k.passes)
 
 among-nums : (n : ℕ) (ys : List Var) → member n (map (λ y. y.num) ys) ≡ is_among ys n
 among-nums n [] = refl
@@ -141,20 +117,12 @@ any-others : (q : ℕ → Bool) (x : ℕ) (ys : List Var) → list_any (λ y. q 
 any-others q x [] = refl
 any-others q x (y ∷ ys) = others-any (eqb y.num x) (q y.num) (list_any (λ m. not (eqb m x) && q m) (map (λ y. y.num) ys)) (λ y. q y.num) y (others x ys) refl (any-others q x ys)
 
--- a list of the free variables finds what their occurrences do
-taken-by_list : (r : ℕ → ℕ) (x n : ℕ) (f : Form) (ns : List ℕ) → ListsFree f ns
-    → list_any (λ y. not (eqb y x) && eqb n (r y)) ns ≡ list_any (λ y. eqb n (r y.num)) (others x (free_occurrences f))
-taken-by_list r x n f ns h =
-    any-same (λ y. not (eqb y x) && eqb n (r y)) ns (map (λ y. y.num) (free_occurrences f))
-    (λ k. h.is k ∙ sym (is_among-free_occurrences k f) ∙ sym (among-nums k (free_occurrences f)))
-    ∙ sym (any-others (λ m. eqb n (r m)) x (free_occurrences f))
-
--- the least number that is neither kept nor that of another variable of the list is the tidy one
-pub tidy_number-is : (keep : List ℕ) (kept : ℕ → Bool) (r : ℕ → ℕ) (x : ℕ) (f : Form) (ns : List ℕ) (n : ℕ) → kept ≡ (λ n. member n keep) → ListsFree f ns
-    → IsLeastWithout (λ n. kept n || list_any (λ y. not (eqb y x) && eqb n (r y)) ns) n → n ≡ tidy_number keep r x f
-tidy_number-is keep kept r x f ns n e h least =
+-- the least number that is neither kept nor that of another free variable is the tidy one
+pub tidy_number-is : (keep : List ℕ) (r : ℕ → ℕ) (x : ℕ) (f : Form) (n : ℕ)
+    → IsLeastWithout (λ m. member m keep || member m (new_numbers r (others x (free_occurrences f)))) n → n ≡ tidy_number keep r x f
+tidy_number-is keep r x f n least =
     least-one (is_taken keep r x f) n (tidy_number keep r x f)
-    (subst (λ p. IsLeastWithout p n) (λ i m. e i m || taken-by_list r x m f ns h i) least) (tidy_number-least keep r x f)
+    (subst (λ p. IsLeastWithout p n) (λ i m. member m keep || sym (any-mapped r m (others x (free_occurrences f))) i) least) (tidy_number-least keep r x f)
 
 -- ---- what is not taken
 

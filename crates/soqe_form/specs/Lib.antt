@@ -24,8 +24,10 @@ pub mod Pairs
 pub mod SameLaws
 pub mod Samples
 pub mod Tidy
-pub mod NumSets
-pub mod FreeLists
+pub mod Counts
+pub mod Numbers
+pub mod Uses
+pub mod Tallies
 pub mod Tidies
 pub mod TidyLaws
 pub mod Unkept

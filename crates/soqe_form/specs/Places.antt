@@ -1,6 +1,6 @@
 -- The part of a formula at a place, what is in scope there, and the first block.
 -- A place is the list of the children that lead to it from the root, 0 the first and 1 the second.
-use Rattle.std.specs.Prelude.{ℕ, Bool, true, false, cond, eqb, List, [], ◌∷◌, Option, Some, None, ◌||◌}
+use Rattle.std.specs.Prelude.{ℕ, suc, ◌+◌, Bool, true, false, cond, eqb, List, [], ◌∷◌, Option, Some, None, ◌||◌}
 use Rattle.soqe_term.specs.Sorting.{Sorting, over_var, over_bound}
 use Rattle.soqe_form.specs.declared.form.Form.{Form, True, False, Equal, Atom, Not, Not', And, And', Or, Or', Imp, Imp', Iff, Iff', All, All', Ex, Ex', All2, All2', Ex2, Ex2', end_of-Form as end, more_of-Form as one}
 use Rattle.soqe_form.specs.declared.form.Block.{Block}
@@ -123,3 +123,19 @@ has_blocks (All' x _ (one f end)) = has_blocks f
 has_blocks (Ex' x _ (one f end)) = has_blocks f
 has_blocks (All2' q _ (one f end)) = true
 has_blocks (Ex2' q _ (one f end)) = true
+
+-- how many quantifiers of predicates stand in the formula
+abbrev pub count_blocks : Form → ℕ
+count_blocks True = 0
+count_blocks False = 0
+count_blocks (Equal s t) = 0
+count_blocks (Atom q ts) = 0
+count_blocks (Not' _ (one f end)) = count_blocks f
+count_blocks (And' _ (one f end) _ (one g end)) = count_blocks f + count_blocks g
+count_blocks (Or' _ (one f end) _ (one g end)) = count_blocks f + count_blocks g
+count_blocks (Imp' _ (one f end) _ (one g end)) = count_blocks f + count_blocks g
+count_blocks (Iff' _ (one f end) _ (one g end)) = count_blocks f + count_blocks g
+count_blocks (All' x _ (one f end)) = count_blocks f
+count_blocks (Ex' x _ (one f end)) = count_blocks f
+count_blocks (All2' q _ (one f end)) = suc (count_blocks f)
+count_blocks (Ex2' q _ (one f end)) = suc (count_blocks f)

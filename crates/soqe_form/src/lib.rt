@@ -10,8 +10,9 @@
 
 mod blocks;
 mod bound_terms;
+mod counts;
 mod form;
-mod free_lists;
+mod free_numbers;
 mod free_preds;
 mod free_variables;
 pub mod laws;
@@ -19,21 +20,25 @@ mod lists;
 pub mod make;
 mod marks;
 mod names;
-mod num_set;
+mod num_order;
 pub mod pred_laws;
 mod pred_renaming;
 mod put;
+mod recent;
 mod renaming;
 mod replace;
 mod sameness;
 mod sorting;
 mod substitution;
+mod tally;
 #[cfg(test)]
 mod tests;
 mod tidying;
 mod unkept;
+mod uses;
 
 pub use blocks::first_block;
+pub use counts::Counts;
 pub use form::{Block, Form, PVar, Pred, copy_boxed};
 pub use free_preds::{has_free_pred, is_hidden, is_same_pred, mark_preds};
 pub use free_variables::free_vars;

@@ -1,8 +1,10 @@
 //! Marks on numbers, kept so that each is set and read at once.
-ghost use Rattle.std.specs.Prelude.{◌≡◌, ◌<◌, ◌||◌, ℕ, OnOk, true, false};
+ghost use Rattle.std.specs.Prelude.{◌≡◌, ◌<◌, ◌||◌, ℕ, OnOk, true, false, not, eqb};
 ghost use Rattle.soqe_term.specs.World.{changed};
 ghost use Rattle.soqe_form.specs.Marks.{marked, IsLeastWithout};
+ghost use Rattle.soqe_form.specs.Counts.{counted};
 
+use crate::counts::Counts;
 use indexmap::IndexMap;
 use soqe_term::Mem;
 use std::alloc::Global;
@@ -72,13 +74,13 @@ impl Marks {
         count
     }
 
-    /// The least number that has a mark neither here nor there. It takes no memory.
-    pub fn least_unmarked_with(&self, other: &Marks) -> u64
-        ensures { IsLeastWithout (λ n. marked self.now n || marked other.now n) result }
+    /// The least number that has neither a mark nor a count. It takes no memory.
+    pub fn least_uncounted(&self, counts: &Counts) -> u64
+        ensures { IsLeastWithout (λ n. marked self.now n || not (eqb (counted counts.now n) 0)) result }
     {
-        let count = self.marks.len() as u64 + other.marks.len() as u64;
+        let count = self.marks.len() as u64 + counts.len() as u64;
         for n in 0..count {
-            if !self.has(n) && !other.has(n) {
+            if !self.has(n) && counts.of(n) == 0 {
                 return n;
             }
         }

@@ -1,60 +1,60 @@
-//! The least number that is not to be kept out.
+//! The numbers that are not to be kept out.
 
-ghost use Rattle.std.specs.Prelude.{◌≡◌, ◌||◌, IfOk, OnOk};
+ghost use Rattle.std.specs.Prelude.{◌≡◌, IfOk, IfSome, OnOk};
 ghost use Rattle.soqe_term.specs.Unused.{member};
-ghost use Rattle.soqe_form.specs.Marks.{marked, Adds, IsLeastWithout};
-ghost use Rattle.soqe_form.specs.Unkept.{AreFirst};
+ghost use Rattle.soqe_form.specs.Marks.{marked, Adds};
+ghost use Rattle.soqe_form.specs.Unkept.{AreFirst, Keeps, IsLeastBeside};
 
 use crate::marks::Marks;
 use soqe_term::{Mem, Nums};
 use std::alloc::Global;
-use std::marker::Model;
+
+/// Of how many numbers a list may be that is gone through again for each number that is tried.
+const FEW: usize = 32;
 
 /// Marks on the numbers to keep out, and the least others in order, so that no search goes through those to keep out again.
-/// Contracts see the marks.
 #[derive(Drop)]
 pub struct Unkept {
-    kept: Marks,
-    others: Nums,
-}
-
-impl Model for Unkept {
-    ghost use Rattle.std.specs.Prelude.{List, ℕ, Bool};
-    ghost use Rattle.soqe_form.specs.Marks.{marked};
-    ghost use Rattle.soqe_form.specs.Unkept.{AreFirst};
-
-    ghost Value = { List (ℕ × Bool) };
-
-    ghost view = { λ u. u.kept };
-
-    ghost invariant = { λ u. AreFirst (marked u.kept) u.others };
+    pub kept: Marks,
+    pub others: Nums,
 }
 
 impl Unkept {
     /// Keeps the numbers of the list out. It takes the time and memory of the list and of the count, which says how many other
     /// numbers a search may have to pass.
-    pub fn new(alloc: Global, keep: &Nums, count: usize) -> Mem<Unkept>
-        ensures { IfOk result (λ r. marked r ≡ (λ n. member n keep.now)) }
+    pub fn new(alloc: Global, keep: &Nums, count: u64) -> Mem<Unkept>
+        ensures { IfOk result (Keeps keep.now) }
     {
         let mut kept = Marks::new(alloc);
         mark_all(keep, &mut kept)?;
-        let end = (keep.as_slice().len() as u64).saturating_add(count as u64);
+        let end = (keep.as_slice().len() as u64).saturating_add(count);
         let others = unmarked_below(alloc, &kept, end)?;
         Ok(Unkept { kept, others })
     }
 
-    /// The least number that is neither kept out nor has a mark. It takes no memory, and as many steps as there are marks, unless
-    /// these are more than the count for which this was made.
-    pub fn least_with(&self, used: &Marks) -> u64
-        ensures { IsLeastWithout (λ n. marked self.now n || marked used.now n) result }
+    /// The least number that is neither kept out nor in the list. There may be none where the list is long, or has each of the
+    /// numbers that are known not to be kept out. It takes no memory, and tries at most one number more than the list has.
+    pub fn first_beside(&self, nums: &Nums) -> Option<u64>
+        ensures { IfSome result (IsLeastBeside self.now nums.now) }
     {
+        let nums = nums.as_slice();
+        if nums.len() > FEW {
+            return None;
+        }
         for n in self.others.as_slice() {
-            if !used.has(*n) {
-                return *n;
+            if !is_member(*n, nums) {
+                return Some(*n);
             }
         }
-        self.kept.least_unmarked_with(used)
+        None
     }
+}
+
+/// Whether the list has the number.
+fn is_member(num: u64, nums: &[u64]) -> bool
+    ensures { result ≡ member num nums.now }
+{
+    nums.iter().any(|n| num == *n)
 }
 
 /// Marks the numbers of a list.

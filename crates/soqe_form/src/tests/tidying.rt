@@ -86,3 +86,44 @@ fn binders_of_predicates_stay(rt: HostRuntime) -> Result<(), Fail> {
     assert!(rt; is_block(block.get()));
     Ok(())
 }
+
+/// `all x.` before the conjunction of `n = n` for each number below the count but the one left out, and of `x = x`.
+fn over_many(alloc: Global, x: u64, count: u64, left_out: u64) -> Mem<Boxed<Form>> {
+    let mut body = Boxed::new(
+        alloc,
+        Form::Equal(Term::Var(variable(x)), Term::Var(variable(x))),
+    )?;
+    for n in 0..count {
+        if n != left_out {
+            let next = Boxed::new(
+                alloc,
+                Form::Equal(Term::Var(variable(n)), Term::Var(variable(n))),
+            )?;
+            body = make::conjunction(alloc, body, next)?;
+        }
+    }
+    make::for_all(alloc, variable(x), body)
+}
+
+#[test]
+fn a_binder_over_many_free_variables_has_the_least_other_number(
+    rt: HostRuntime,
+) -> Result<(), Fail> {
+    let alloc = rt.alloc();
+    let cases: [(u64, u64, u64); 5] = [
+        (5, 100, 5),
+        (40, 100, 40),
+        (40, 20, 20),
+        (40, 0, 0),
+        (33, 7, 7),
+    ];
+    for (count, left_out, new) in cases {
+        let form = over_many(alloc, 200, count, left_out)?;
+        let form = tidy(alloc, form.get(), &Nums::new(alloc))?;
+        match form.get() {
+            Form::All(x, _) => assert!(rt; x.num == new),
+            _ => assert!(rt; false),
+        }
+    }
+    Ok(())
+}

@@ -1,0 +1,10 @@
+use Rattle.std.proofs.Common.{◌∙◌, ap}
+use Rattle.soqe_term.specs.World.{changed}
+use Rattle.soqe_form.specs.Counts.{counted}
+use Rattle.soqe_form.proofs.Counted.{counted-set}
+use Rattle.soqe_form.proofs.counts.Counts.set.Goals as goal
+
+pub returns : goal.returns
+returns c =
+    counted-set c.self.inside.counts.entries c.insert.new.self.entries c.args.n c.args.count c.in_ok-insert.ensures.updates.0
+    ∙ ap (λ m. changed (counted m) c.args.n c.args.count) c.self.view_is
