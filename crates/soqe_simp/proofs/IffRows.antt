@@ -7,7 +7,6 @@ use Rattle.soqe_form.specs.Boxes.{boxes}
 use Rattle.soqe_form.specs.Truth.{truth, alike}
 use Rattle.soqe_form.specs.Free.{free, free_pred}
 use Rattle.soqe_form.specs.Sorted.{sorted}
-use Rattle.soqe_form.specs.Places.{has_blocks}
 use Rattle.soqe_form.specs.Same.{same, is_true, is_false}
 use Rattle.soqe_form.proofs.SameCases.{at-true, at-false}
 use Rattle.soqe_form.proofs.SameTruth.{truth-same}
@@ -42,7 +41,7 @@ left_denied : (b : Form) → Keeps (Iff False b) (Not b)
 unfolding boxes
 left_denied b = record {
   truth = λ w. refl;
-  shrinks = record { sorts = λ e h. h; free = λ n h. h; free_pred = λ n h. h; blocks = λ h. h; weight = omega (arith) };
+  shrinks = record { sorts = λ e h. h; free = λ n h. h; free_pred = λ n h. h; count = omega (arith); weight = omega (arith) };
 }
 
 pub false_iff-keeps : RowKeeps false_iff
@@ -57,7 +56,7 @@ right_denied a = record {
     sorts = λ e h. and_first (sorted e a) true h;
     free = λ n h. or_left (free n a) false h;
     free_pred = λ n h. or_left (free_pred n a) false h;
-    blocks = λ h. or_left (has_blocks a) false h;
+    count = omega (arith);
     weight = omega (arith);
   };
 }

@@ -12,7 +12,6 @@ use Rattle.soqe_form.specs.declared.form.PVar.{PVar}
 use Rattle.soqe_form.specs.declared.form.Form.{Form, True, False, Equal, Atom, Not, Not', And, And', Or, Or', Imp, Imp', Iff, Iff', All, All', Ex, Ex', All2, All2', Ex2, Ex2', end_of-Form as end, more_of-Form as one}
 use Rattle.soqe_form.specs.Boxes.{boxes}
 use Rattle.soqe_form.specs.Free.{free_pred}
-use Rattle.soqe_form.specs.Places.{has_blocks}
 use Rattle.soqe_form.specs.Substitution.{without, renamed, fresh, numbered, catches, new_binder, new_body, sub}
 use Rattle.soqe_simp.specs.Weight.{weight}
 
@@ -89,22 +88,6 @@ ignores-weight = record {
   ex2 = λ p f g e. ap (λ m. 1 + m) e;
 }
 
-ignores-blocks : Ignores has_blocks
-unfolding boxes
-ignores-blocks = record {
-  equal = λ s t u r. refl;
-  atom = λ p ts us. refl;
-  not = λ f g e. e;
-  and = λ f g h k e d. λ i. e i || d i;
-  or = λ f g h k e d. λ i. e i || d i;
-  imp = λ f g h k e d. λ i. e i || d i;
-  iff = λ f g h k e d. λ i. e i || d i;
-  all = λ x y f g e. e;
-  ex = λ x y f g e. e;
-  all2 = λ p f g e. refl;
-  ex2 = λ p f g e. refl;
-}
-
 ignores-free_pred : (n : ℕ) → Ignores (λ f. free_pred n f)
 unfolding boxes
 ignores-free_pred n = record {
@@ -121,12 +104,9 @@ ignores-free_pred n = record {
   ex2 = λ p f g e. ap (λ b. cond (eqb n p.num) false b) e;
 }
 
--- substitution changes neither the weight nor anything about predicates
+-- substitution changes neither the weight nor the free bound predicates
 pub weight-sub : (k : ℕ) (s : List Pair) (f : Form) → weight (sub k s f) ≡ weight f
 weight-sub = same_sub weight ignores-weight
-
-pub has_blocks-sub : (k : ℕ) (s : List Pair) (f : Form) → has_blocks (sub k s f) ≡ has_blocks f
-has_blocks-sub = same_sub has_blocks ignores-blocks
 
 pub free_pred-sub : (n k : ℕ) (s : List Pair) (f : Form) → free_pred n (sub k s f) ≡ free_pred n f
 free_pred-sub n = same_sub (λ f. free_pred n f) (ignores-free_pred n)

@@ -7,7 +7,6 @@ use Rattle.soqe_form.specs.Boxes.{boxes}
 use Rattle.soqe_form.specs.Truth.{truth}
 use Rattle.soqe_form.specs.Free.{free, free_pred}
 use Rattle.soqe_form.specs.Sorted.{sorted}
-use Rattle.soqe_form.specs.Places.{has_blocks}
 use Rattle.soqe_form.specs.Same.{same, is_true, is_false}
 use Rattle.soqe_form.proofs.SameCases.{at-true, at-false}
 use Rattle.soqe_form.proofs.SameTruth.{truth-same}
@@ -69,7 +68,7 @@ denied a = record {
     sorts = λ e h. and_first (sorted e a) true h;
     free = λ n h. or_left (free n a) false h;
     free_pred = λ n h. or_left (free_pred n a) false h;
-    blocks = λ h. or_left (has_blocks a) false h;
+    count = omega (arith);
     weight = omega (arith);
   };
 }
@@ -91,7 +90,7 @@ joined a b c = record {
     sorts = λ e h. and-grouped (sorted e a) (sorted e b) (sorted e c) ∙ h;
     free = λ n h. sym (or-grouped (free n a) (free n b) (free n c)) ∙ h;
     free_pred = λ n h. sym (or-grouped (free_pred n a) (free_pred n b) (free_pred n c)) ∙ h;
-    blocks = λ h. sym (or-grouped (has_blocks a) (has_blocks b) (has_blocks c)) ∙ h;
+    count = omega (arith);
     weight = omega (arith);
   };
 }
@@ -105,7 +104,7 @@ apart : (a b : Form) → Keeps (Imp a (Not b)) (Not (And a b))
 unfolding boxes
 apart a b = record {
   truth = λ w. opposite (truth w a) (truth w b);
-  shrinks = record { sorts = λ e h. h; free = λ n h. h; free_pred = λ n h. h; blocks = λ h. h; weight = omega (arith) };
+  shrinks = record { sorts = λ e h. h; free = λ n h. h; free_pred = λ n h. h; count = omega (arith); weight = omega (arith) };
 }
 
 pub implies_negation-keeps : RowKeeps implies_negation

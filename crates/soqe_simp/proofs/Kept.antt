@@ -10,7 +10,7 @@ use Rattle.soqe_form.specs.Constants.{constant}
 use Rattle.soqe_form.specs.Truth.{truth}
 use Rattle.soqe_form.specs.Free.{free, free_pred}
 use Rattle.soqe_form.specs.Sorted.{sorted}
-use Rattle.soqe_form.specs.Places.{has_blocks}
+use Rattle.soqe_form.specs.Places.{count_blocks}
 use Rattle.soqe_form.proofs.SameCases.{never}
 use Rattle.soqe_simp.specs.Weight.{weight}
 use Rattle.soqe_simp.specs.Keeps.{Shrinks, Keeps, KeepsIn}
@@ -42,29 +42,29 @@ pub record IsNode (f a b : Form) : Type 0 where
   pub sorts : (e : Sorting) → sorted e f ≡ (sorted e a && sorted e b)
   pub free : (n : ℕ) → free n f ≡ (free n a || free n b)
   pub free_pred : (n : ℕ) → free_pred n f ≡ (free_pred n a || free_pred n b)
-  pub blocks : has_blocks f ≡ (has_blocks a || has_blocks b)
+  pub count : count_blocks f ≡ count_blocks a + count_blocks b
   pub weight : weight a + weight b < weight f
 
 pub node-and : (a b : Form) → IsNode (And a b) a b
 unfolding boxes
-node-and a b = record { sorts = λ e. refl; free = λ n. refl; free_pred = λ n. refl; blocks = refl; weight = omega (arith) }
+node-and a b = record { sorts = λ e. refl; free = λ n. refl; free_pred = λ n. refl; count = refl; weight = omega (arith) }
 
 pub node-or : (a b : Form) → IsNode (Or a b) a b
 unfolding boxes
-node-or a b = record { sorts = λ e. refl; free = λ n. refl; free_pred = λ n. refl; blocks = refl; weight = omega (arith) }
+node-or a b = record { sorts = λ e. refl; free = λ n. refl; free_pred = λ n. refl; count = refl; weight = omega (arith) }
 
 pub node-imp : (a b : Form) → IsNode (Imp a b) a b
 unfolding boxes
-node-imp a b = record { sorts = λ e. refl; free = λ n. refl; free_pred = λ n. refl; blocks = refl; weight = omega (arith) }
+node-imp a b = record { sorts = λ e. refl; free = λ n. refl; free_pred = λ n. refl; count = refl; weight = omega (arith) }
 
 pub node-iff : (a b : Form) → IsNode (Iff a b) a b
 unfolding boxes
-node-iff a b = record { sorts = λ e. refl; free = λ n. refl; free_pred = λ n. refl; blocks = refl; weight = omega (arith) }
+node-iff a b = record { sorts = λ e. refl; free = λ n. refl; free_pred = λ n. refl; count = refl; weight = omega (arith) }
 
 -- a truth value in place of a formula
 pub constant-shrinks : (f : Form) (v : Bool) → 1 < weight f → Shrinks f (constant v)
-constant-shrinks f true h = record { sorts = λ e s. refl; free = λ n p. never p; free_pred = λ n p. never p; blocks = λ p. never p; weight = h }
-constant-shrinks f false h = record { sorts = λ e s. refl; free = λ n p. never p; free_pred = λ n p. never p; blocks = λ p. never p; weight = h }
+constant-shrinks f true h = record { sorts = λ e s. refl; free = λ n p. never p; free_pred = λ n p. never p; count = omega (arith); weight = h }
+constant-shrinks f false h = record { sorts = λ e s. refl; free = λ n p. never p; free_pred = λ n p. never p; count = omega (arith); weight = h }
 
 pub node-constant : (f a b : Form) (v : Bool) → IsNode f a b → ((w : World) → truth w f ≡ v) → Keeps f (constant v)
 node-constant f a b true n t = record { truth = t; shrinks = constant-shrinks f true (omega (arith, n.weight, weight-positive a, weight-positive b)) }
@@ -78,7 +78,7 @@ node-first f a b n t = record {
     sorts = λ e h. and_first (sorted e a) (sorted e b) (sym (n.sorts e) ∙ h);
     free = λ k h. n.free k ∙ or_left (free k a) (free k b) h;
     free_pred = λ k h. n.free_pred k ∙ or_left (free_pred k a) (free_pred k b) h;
-    blocks = λ h. n.blocks ∙ or_left (has_blocks a) (has_blocks b) h;
+    count = omega (arith, n.count);
     weight = omega (arith, n.weight);
   };
 }
@@ -91,7 +91,7 @@ node-second f a b n t = record {
     sorts = λ e h. and_second (sorted e a) (sorted e b) (sym (n.sorts e) ∙ h);
     free = λ k h. n.free k ∙ or_right (free k a) (free k b) h;
     free_pred = λ k h. n.free_pred k ∙ or_right (free_pred k a) (free_pred k b) h;
-    blocks = λ h. n.blocks ∙ or_right (has_blocks a) (has_blocks b) h;
+    count = omega (arith, n.count);
     weight = omega (arith, n.weight);
   };
 }

@@ -19,5 +19,9 @@ pub mod Simple
 pub mod Settled
 pub mod Readies
 mod Positions
-mod TakenSteps
+mod TakenApart
+mod Finished
 mod EndsOf
+mod Sided
+mod Quantified
+mod Knowing

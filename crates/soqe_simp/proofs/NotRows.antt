@@ -30,7 +30,7 @@ inner : (a : Form) → Keeps (Not (Not a)) a
 unfolding boxes
 inner a = record {
   truth = λ w. not_twice (truth w a);
-  shrinks = record { sorts = λ e h. h; free = λ n h. h; free_pred = λ n h. h; blocks = λ h. h; weight = omega (arith) };
+  shrinks = record { sorts = λ e h. h; free = λ n h. h; free_pred = λ n h. h; count = omega (arith); weight = omega (arith) };
 }
 
 pub not_not-keeps : RowKeeps not_not

@@ -5,7 +5,6 @@ use Rattle.soqe_form.specs.Boxes.{boxes}
 use Rattle.soqe_form.specs.Truth.{truth}
 use Rattle.soqe_form.specs.Free.{free, free_pred}
 use Rattle.soqe_form.specs.Sorted.{sorted}
-use Rattle.soqe_form.specs.Places.{has_blocks}
 use Rattle.soqe_form.specs.Same.{same, is_true, is_false, is_not}
 use Rattle.soqe_form.proofs.SameCases.{at-true, at-false, at-not}
 use Rattle.soqe_form.proofs.SameTruth.{truth-same}
@@ -86,7 +85,7 @@ left : (a b : Form) → Keeps (Or (Not a) b) (Imp a b)
 unfolding boxes
 left a b = record {
   truth = λ w. refl;
-  shrinks = record { sorts = λ e h. h; free = λ n h. h; free_pred = λ n h. h; blocks = λ h. h; weight = omega (arith) };
+  shrinks = record { sorts = λ e h. h; free = λ n h. h; free_pred = λ n h. h; count = omega (arith); weight = omega (arith) };
 }
 
 pub not_or-keeps : RowKeeps not_or
@@ -102,7 +101,7 @@ right a b = record {
     sorts = λ e h. and-exchanged (sorted e b) (sorted e a) ∙ h;
     free = λ n h. or-exchanged (free n a) (free n b) ∙ h;
     free_pred = λ n h. or-exchanged (free_pred n a) (free_pred n b) ∙ h;
-    blocks = λ h. or-exchanged (has_blocks a) (has_blocks b) ∙ h;
+    count = omega (arith);
     weight = omega (arith);
   };
 }

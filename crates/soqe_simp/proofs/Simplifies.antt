@@ -9,7 +9,7 @@ use Rattle.soqe_form.specs.Alike.{AlikeIn}
 use Rattle.soqe_form.specs.Truth.{alike as equivalent}
 use Rattle.soqe_form.specs.Free.{free, free_pred}
 use Rattle.soqe_form.specs.Sorted.{sorted}
-use Rattle.soqe_form.specs.Places.{has_blocks, part_at, put_at, scope_at}
+use Rattle.soqe_form.specs.Places.{part_at, put_at, scope_at}
 use Rattle.soqe_form.proofs.Places.{truth-put_at}
 use Rattle.soqe_simp.specs.Weight.{weight}
 use Rattle.soqe_simp.specs.Keeps.{KeepsIn}
@@ -22,7 +22,7 @@ use Rattle.soqe_simp.proofs.Children.{children-lighter}
 use Rattle.soqe_simp.proofs.Steps.{step-keeps}
 
 pub simplifies-itself : (f : Form) → Simplifies f f
-simplifies-itself f = record { alike = λ e s w h. refl; sorts = λ e s. s; free = λ n h. h; free_pred = λ n h. h; blocks = λ h. h; weight = omega (arith) }
+simplifies-itself f = record { alike = λ e s w h. refl; sorts = λ e s. s; free = λ n h. h; free_pred = λ n h. h; count = omega (arith); weight = omega (arith) }
 
 pub simplifies-then : (f g h : Form) → Simplifies f g → Simplifies g h → Simplifies f h
 simplifies-then f g h k l = record {
@@ -30,7 +30,7 @@ simplifies-then f g h k l = record {
   sorts = λ e s. l.sorts e (k.sorts e s);
   free = λ n m. k.free n (l.free n m);
   free_pred = λ n m. k.free_pred n (l.free_pred n m);
-  blocks = λ m. k.blocks (l.blocks m);
+  count = omega (arith, k.count, l.count);
   weight = omega (arith, k.weight, l.weight);
 }
 
@@ -40,7 +40,7 @@ simplifies-kept f g k = record {
   sorts = k.shrinks.sorts;
   free = k.shrinks.free;
   free_pred = k.shrinks.free_pred;
-  blocks = k.shrinks.blocks;
+  count = k.shrinks.count;
   weight = omega (arith, k.shrinks.weight);
 }
 
@@ -73,7 +73,7 @@ simplifies-children s (Not' _ (one f end)) h = record {
   sorts = h.sorts;
   free = h.free;
   free_pred = h.free_pred;
-  blocks = h.blocks;
+  count = h.count;
   weight = omega (arith, h.weight);
 }
 simplifies-children s (And' _ (one f end) _ (one g end)) h = record {
@@ -81,7 +81,7 @@ simplifies-children s (And' _ (one f end) _ (one g end)) h = record {
   sorts = λ e. both (sorted e f) (sorted e g) (sorted e (s f)) (sorted e (s g)) (h.0.sorts e) (h.1.sorts e);
   free = λ n. either (free n f) (free n g) (free n (s f)) (free n (s g)) (h.0.free n) (h.1.free n);
   free_pred = λ n. either (free_pred n f) (free_pred n g) (free_pred n (s f)) (free_pred n (s g)) (h.0.free_pred n) (h.1.free_pred n);
-  blocks = either (has_blocks f) (has_blocks g) (has_blocks (s f)) (has_blocks (s g)) h.0.blocks h.1.blocks;
+  count = omega (arith, h.0.count, h.1.count);
   weight = omega (arith, h.0.weight, h.1.weight);
 }
 simplifies-children s (Or' _ (one f end) _ (one g end)) h = record {
@@ -89,7 +89,7 @@ simplifies-children s (Or' _ (one f end) _ (one g end)) h = record {
   sorts = λ e. both (sorted e f) (sorted e g) (sorted e (s f)) (sorted e (s g)) (h.0.sorts e) (h.1.sorts e);
   free = λ n. either (free n f) (free n g) (free n (s f)) (free n (s g)) (h.0.free n) (h.1.free n);
   free_pred = λ n. either (free_pred n f) (free_pred n g) (free_pred n (s f)) (free_pred n (s g)) (h.0.free_pred n) (h.1.free_pred n);
-  blocks = either (has_blocks f) (has_blocks g) (has_blocks (s f)) (has_blocks (s g)) h.0.blocks h.1.blocks;
+  count = omega (arith, h.0.count, h.1.count);
   weight = omega (arith, h.0.weight, h.1.weight);
 }
 simplifies-children s (Imp' _ (one f end) _ (one g end)) h = record {
@@ -97,7 +97,7 @@ simplifies-children s (Imp' _ (one f end) _ (one g end)) h = record {
   sorts = λ e. both (sorted e f) (sorted e g) (sorted e (s f)) (sorted e (s g)) (h.0.sorts e) (h.1.sorts e);
   free = λ n. either (free n f) (free n g) (free n (s f)) (free n (s g)) (h.0.free n) (h.1.free n);
   free_pred = λ n. either (free_pred n f) (free_pred n g) (free_pred n (s f)) (free_pred n (s g)) (h.0.free_pred n) (h.1.free_pred n);
-  blocks = either (has_blocks f) (has_blocks g) (has_blocks (s f)) (has_blocks (s g)) h.0.blocks h.1.blocks;
+  count = omega (arith, h.0.count, h.1.count);
   weight = omega (arith, h.0.weight, h.1.weight);
 }
 simplifies-children s (Iff' _ (one f end) _ (one g end)) h = record {
@@ -105,7 +105,7 @@ simplifies-children s (Iff' _ (one f end) _ (one g end)) h = record {
   sorts = λ e. both (sorted e f) (sorted e g) (sorted e (s f)) (sorted e (s g)) (h.0.sorts e) (h.1.sorts e);
   free = λ n. either (free n f) (free n g) (free n (s f)) (free n (s g)) (h.0.free n) (h.1.free n);
   free_pred = λ n. either (free_pred n f) (free_pred n g) (free_pred n (s f)) (free_pred n (s g)) (h.0.free_pred n) (h.1.free_pred n);
-  blocks = either (has_blocks f) (has_blocks g) (has_blocks (s f)) (has_blocks (s g)) h.0.blocks h.1.blocks;
+  count = omega (arith, h.0.count, h.1.count);
   weight = omega (arith, h.0.weight, h.1.weight);
 }
 simplifies-children s (All' x _ (one f end)) h = record {
@@ -113,7 +113,7 @@ simplifies-children s (All' x _ (one f end)) h = record {
   sorts = λ e. h.sorts (over_var e x.num x.sort);
   free = λ n. hidden (eqb n x.num) (free n f) (free n (s f)) (h.free n);
   free_pred = h.free_pred;
-  blocks = h.blocks;
+  count = h.count;
   weight = omega (arith, h.weight);
 }
 simplifies-children s (Ex' x _ (one f end)) h = record {
@@ -121,7 +121,7 @@ simplifies-children s (Ex' x _ (one f end)) h = record {
   sorts = λ e. h.sorts (over_var e x.num x.sort);
   free = λ n. hidden (eqb n x.num) (free n f) (free n (s f)) (h.free n);
   free_pred = h.free_pred;
-  blocks = h.blocks;
+  count = h.count;
   weight = omega (arith, h.weight);
 }
 simplifies-children s (All2' p _ (one f end)) h = record {
@@ -129,7 +129,7 @@ simplifies-children s (All2' p _ (one f end)) h = record {
   sorts = λ e. h.sorts (over_bound e p.num p.args);
   free = h.free;
   free_pred = λ n. hidden (eqb n p.num) (free_pred n f) (free_pred n (s f)) (h.free_pred n);
-  blocks = λ m. refl;
+  count = omega (arith, h.count);
   weight = omega (arith, h.weight);
 }
 simplifies-children s (Ex2' p _ (one f end)) h = record {
@@ -137,7 +137,7 @@ simplifies-children s (Ex2' p _ (one f end)) h = record {
   sorts = λ e. h.sorts (over_bound e p.num p.args);
   free = h.free;
   free_pred = λ n. hidden (eqb n p.num) (free_pred n f) (free_pred n (s f)) (h.free_pred n);
-  blocks = λ m. refl;
+  count = omega (arith, h.count);
   weight = omega (arith, h.weight);
 }
 

@@ -1,5 +1,5 @@
 -- What it means that a part of a formula says which element a variable is.
-use Rattle.std.proofs.Common.{◌≡◌, ℕ, ◌<◌, Bool, true, false, cond, eqb, not, ◌||◌, ◌&&◌, List, ◌∷◌, Some, refl, sym, ◌∙◌, ap, subst, arith}
+use Rattle.std.proofs.Common.{◌≡◌, ℕ, ◌<◌, ◌≤◌, Bool, true, false, cond, eqb, not, ◌||◌, ◌&&◌, List, ◌∷◌, Some, refl, sym, ◌∙◌, ap, subst, arith}
 use Rattle.std.proofs.lemmas.Bool.{eqb-true, and_right, or_left, or_right}
 use Rattle.soqe_term.specs.declared.term.Var.{Var}
 use Rattle.soqe_term.specs.declared.term.Term.{Term, Var as var}
@@ -20,7 +20,7 @@ use Rattle.soqe_form.specs.Boxes.{boxes}
 use Rattle.soqe_form.specs.Truth.{truth}
 use Rattle.soqe_form.specs.Free.{free as free_in, free_pred as free_pred_in}
 use Rattle.soqe_form.specs.Sorted.{sorted}
-use Rattle.soqe_form.specs.Places.{has_blocks}
+use Rattle.soqe_form.specs.Places.{count_blocks}
 use Rattle.soqe_form.proofs.Renamings.{eqb-swap}
 use Rattle.soqe_form.proofs.SameCases.{never}
 use Rattle.soqe_simp.specs.declared.conjuncts.Solved.{Solved}
@@ -43,7 +43,7 @@ pub record Says (v : Bool) (ys : List ℕ) (x : Var) (f : Form) (s : Solved) : T
   pub free : (n : ℕ) → free_in n s.rest ≡ true → free_in n f ≡ true
   pub term_free : (n : ℕ) → occurs n s.term ≡ true → free_in n f ≡ true
   pub free_pred : (n : ℕ) → free_pred_in n s.rest ≡ true → free_pred_in n f ≡ true
-  pub blocks : has_blocks s.rest ≡ true → has_blocks f ≡ true
+  pub count : count_blocks s.rest ≤ count_blocks f
   pub weight : weight_of s.rest < weight_of f
 
 -- ---- an equation
@@ -87,7 +87,7 @@ left_says ys x t d = record {
   free = λ n h. never h;
   term_free = λ n h. or_right (eqb n x.num) (occurs n t) h;
   free_pred = λ n h. never h;
-  blocks = λ h. never h;
+  count = omega (arith);
   weight = omega (arith);
 }
 
@@ -104,7 +104,7 @@ right_says ys x t d = record {
   free = λ n h. never h;
   term_free = λ n h. or_left (occurs n t) (eqb n x.num) h;
   free_pred = λ n h. never h;
-  blocks = λ h. never h;
+  count = omega (arith);
   weight = omega (arith);
 }
 
@@ -152,7 +152,7 @@ module _ (ys : List ℕ) (x : Var) (f g : Form) (s : Solved) where
     free = λ n h. either (free_in n s.rest) (free_in n f) (free_in n g) (k.free n) h;
     term_free = λ n h. or_left (free_in n f) (free_in n g) (k.term_free n h);
     free_pred = λ n h. either (free_pred_in n s.rest) (free_pred_in n f) (free_pred_in n g) (k.free_pred n) h;
-    blocks = λ h. either (has_blocks s.rest) (has_blocks f) (has_blocks g) k.blocks h;
+    count = omega (arith, k.count);
     weight = omega (arith, k.weight);
   }
 
@@ -170,7 +170,7 @@ module _ (ys : List ℕ) (x : Var) (f g : Form) (s : Solved) where
     free = λ n h. either_right (free_in n s.rest) (free_in n f) (free_in n g) (k.free n) h;
     term_free = λ n h. or_right (free_in n g) (free_in n f) (k.term_free n h);
     free_pred = λ n h. either_right (free_pred_in n s.rest) (free_pred_in n f) (free_pred_in n g) (k.free_pred n) h;
-    blocks = λ h. either_right (has_blocks s.rest) (has_blocks f) (has_blocks g) k.blocks h;
+    count = omega (arith, k.count);
     weight = omega (arith, k.weight);
   }
 
@@ -189,7 +189,7 @@ module _ (ys : List ℕ) (x : Var) (f g : Form) (s : Solved) where
     free = λ n h. either (free_in n s.rest) (free_in n f) (free_in n g) (k.free n) h;
     term_free = λ n h. or_left (free_in n f) (free_in n g) (k.term_free n h);
     free_pred = λ n h. either (free_pred_in n s.rest) (free_pred_in n f) (free_pred_in n g) (k.free_pred n) h;
-    blocks = λ h. either (has_blocks s.rest) (has_blocks f) (has_blocks g) k.blocks h;
+    count = omega (arith, k.count);
     weight = omega (arith, k.weight);
   }
 
@@ -208,7 +208,7 @@ negation-says ys x f s k = record {
   free = k.free;
   term_free = k.term_free;
   free_pred = k.free_pred;
-  blocks = k.blocks;
+  count = k.count;
   weight = omega (arith, k.weight);
 }
 
@@ -272,7 +272,7 @@ some-says ys x y f s k = record {
   free = free_below false ys x y f s k;
   term_free = term_free_below false ys x y f s k;
   free_pred = k.free_pred;
-  blocks = k.blocks;
+  count = k.count;
   weight = omega (arith, k.weight);
 }
 
@@ -290,6 +290,6 @@ every-says ys x y f s k = record {
   free = free_below true ys x y f s k;
   term_free = term_free_below true ys x y f s k;
   free_pred = k.free_pred;
-  blocks = k.blocks;
+  count = k.count;
   weight = omega (arith, k.weight);
 }

@@ -20,6 +20,7 @@ use Rattle.soqe_form.specs.Free.{free}
 use Rattle.soqe_form.specs.Sorted.{sorted}
 use Rattle.soqe_form.specs.IsSub.{single}
 use Rattle.soqe_form.specs.Mentions.{depth}
+use Rattle.soqe_form.proofs.BlockCounts.{count-sub}
 use Rattle.soqe_form.proofs.Substitutions.{truth-sub}
 use Rattle.soqe_form.proofs.SubstitutedSorts.{sorted-sub_binding, has_own_sort, is_sorted_single}
 use Rattle.soqe_simp.specs.declared.conjuncts.Solved.{Solved}
@@ -31,7 +32,7 @@ use Rattle.soqe_simp.proofs.RowForms.{none_of, when, on-not, on-imp, on-all, on-
 use Rattle.soqe_simp.proofs.Options.{mapped, found_first}
 use Rattle.soqe_simp.proofs.Points.{some-point, every-point}
 use Rattle.soqe_simp.proofs.Vacuous.{beside}
-use Rattle.soqe_simp.proofs.Ignoring.{weight-sub, has_blocks-sub, free_pred-sub}
+use Rattle.soqe_simp.proofs.Ignoring.{weight-sub, free_pred-sub}
 use Rattle.soqe_simp.proofs.SubstitutedNames.{free-sub}
 use Rattle.soqe_simp.proofs.Solved.{Says, equation-says, turned-says, left-says, right-says, condition-says, negation-says, some-says, every-says, below_shown, sorted_term-unused}
 
@@ -134,7 +135,7 @@ module _ (v : Bool) (x : Var) (f : Form) (s : Solved) (k : Says v [] x f s) wher
     sorts = solution_sorted;
     free = solution_free;
     free_pred = λ n h. k.free_pred n (sym (free_pred-sub n (depth s.rest) (single x s.term) s.rest) ∙ h);
-    blocks = λ h. k.blocks (sym (has_blocks-sub (depth s.rest) (single x s.term) s.rest) ∙ h);
+    count = omega (arith, k.count, count-sub (depth s.rest) (single x s.term) s.rest);
     weight = omega (arith, k.weight, weight-sub (depth s.rest) (single x s.term) s.rest);
   }
 
@@ -146,7 +147,7 @@ some_solved x f s k =
       alike = λ e h w fit.
           some-point (w.size x.sort) (value w s.term) (λ a. truth (with_var w x.num a) f) (point_below false x f s k e h w fit) (truth_off_point false x f s k w)
           ∙ truth_at_point false x f s k w;
-      shrinks = record { sorts = q.sorts; free = q.free; free_pred = q.free_pred; blocks = q.blocks; weight = q.weight };
+      shrinks = record { sorts = q.sorts; free = q.free; free_pred = q.free_pred; count = q.count; weight = q.weight };
     }
 
 every_solved : (x : Var) (f : Form) (s : Solved) → Says true [] x f s → KeepsIn (All x f) (with_solution x s)

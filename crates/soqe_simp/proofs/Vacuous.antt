@@ -33,7 +33,7 @@ variable_shrinks x a k = record {
   sorts = λ e h. sym (sorted-unused e x.num x.sort a k) ∙ h;
   free = λ n h. beside (λ n. free n a) n x.num k h;
   free_pred = λ n h. h;
-  blocks = λ h. h;
+  count = omega (arith);
   weight = omega (arith);
 }
 
@@ -50,7 +50,7 @@ ex_unused x a k =
     let same = variable_shrinks x a k in
     record {
       alike = λ e h w fit. some-constant (w.size x.sort) (λ b. truth (with_var w x.num b) a) (truth w a) (fit.size x.sort) (λ b. truth-unused w x.num b a k);
-      shrinks = record { sorts = same.sorts; free = same.free; free_pred = same.free_pred; blocks = same.blocks; weight = same.weight };
+      shrinks = record { sorts = same.sorts; free = same.free; free_pred = same.free_pred; count = same.count; weight = same.weight };
     }
 
 pub unused_variable-keeps : RowKeepsIn unused_variable
@@ -65,7 +65,7 @@ predicate_shrinks p a k = record {
   sorts = λ e h. sym (sorted-lacks e p.num p.args a k) ∙ h;
   free = λ n h. h;
   free_pred = λ n h. beside (λ n. free_pred n a) n p.num k h;
-  blocks = λ h. refl;
+  count = omega (arith);
   weight = omega (arith);
 }
 
@@ -84,7 +84,7 @@ ex2_unused p a k =
     record {
       truth = λ w. some_list-constant (product (map w.size p.args)) (λ t. truth (with_bound w p.num (entry (map w.size p.args) t)) a) (truth w a)
           (λ t. truth-lacks w p.num (entry (map w.size p.args) t) a k);
-      shrinks = record { sorts = same.sorts; free = same.free; free_pred = same.free_pred; blocks = same.blocks; weight = same.weight };
+      shrinks = record { sorts = same.sorts; free = same.free; free_pred = same.free_pred; count = same.count; weight = same.weight };
     }
 
 pub unused_predicate-keeps : RowKeeps unused_predicate

@@ -12,3 +12,7 @@ pub mod Ready
 pub mod RowTables
 pub mod Stepped
 pub mod Ends
+pub mod Finished
+pub mod Chains
+pub mod Sides
+pub mod Known

@@ -5,19 +5,19 @@ use Rattle.soqe_form.specs.declared.form.Form.{Form}
 use Rattle.soqe_form.specs.Alike.{AlikeIn}
 use Rattle.soqe_form.specs.Free.{free as free_in, free_pred as free_pred_in}
 use Rattle.soqe_form.specs.Sorted.{sorted}
-use Rattle.soqe_form.specs.Places.{has_blocks}
+use Rattle.soqe_form.specs.Places.{count_blocks}
 use Rattle.soqe_simp.specs.Weight.{weight as weight_of}
 use Rattle.soqe_simp.specs.Normal.{is_simple}
 use Rattle.soqe_simp.specs.Simplified.{simplify}
 
--- Where f is well sorted, g is, and has its truth in every world that fits. g has no free name and no quantifier of a predicate
--- that f lacks, and weighs no more.
+-- Where f is well sorted, g is, and has its truth in every world that fits. g has no free name that f lacks,
+-- no more quantifiers of predicates, and weighs no more.
 pub record Simplifies (f g : Form) : Type 0 where
   pub alike : (e : Sorting) → sorted e f ≡ true → AlikeIn e f g
   pub sorts : (e : Sorting) → sorted e f ≡ true → sorted e g ≡ true
   pub free : (n : ℕ) → free_in n g ≡ true → free_in n f ≡ true
   pub free_pred : (n : ℕ) → free_pred_in n g ≡ true → free_pred_in n f ≡ true
-  pub blocks : has_blocks g ≡ true → has_blocks f ≡ true
+  pub count : count_blocks g ≤ count_blocks f
   pub weight : weight_of g ≤ weight_of f
 
 -- the simple formula keeps what has to be kept

@@ -5,7 +5,9 @@
 //! `specs/RowTables.antt` has the names of the rows.
 #![tactic(auto)]
 
+mod chains;
 mod conjuncts;
+mod known;
 pub mod laws;
 mod parts;
 mod questions;
@@ -13,6 +15,7 @@ mod results;
 mod rewriting;
 mod row_table;
 mod rows;
+mod sides;
 mod simplifying;
 mod stepping;
 #[cfg(test)]

@@ -4,91 +4,135 @@
 ghost use Rattle.std.specs.Prelude.{◌≡◌, IfOk};
 ghost use Rattle.soqe_simp.specs.Simplified.{on_children, simplify as simple};
 ghost use Rattle.soqe_simp.specs.Ready.{Children, IsSimple, IsBelow, Ready, is_again as is_again_of, is_below as is_below_of, is_anew as is_anew_of};
+ghost use Rattle.soqe_simp.specs.Stepped.{stepped as stepped_of};
+ghost use Rattle.soqe_simp.specs.Finished.{finished, IsReady};
+ghost use Rattle.soqe_simp.specs.Chains.{quantify, quantified as quantified_of};
+ghost use Rattle.soqe_simp.specs.Known.{PutsBack};
 
+use crate::chains::{Quantifier, chain_of, is_quantified, quantified, step_quantified};
+use crate::known::{Known, know, learn, may_be_defined, pass};
 use crate::parts::{Implication, denied, implication_parts};
 use crate::rewriting::Rewritten;
-use crate::stepping::{Stepped, take_step};
-use soqe_form::Form;
-use soqe_form::make::{
-    conjunction, constant, disjunction, equivalence, exists, exists_table, for_all, for_all_tables,
-    implication, negation,
+use crate::rows::{
+    at_and, at_equal, at_existential, at_existential_block, at_iff, at_imp, at_not, at_or,
+    at_universal, at_universal_block,
 };
+use crate::stepping::{Stepped, settled_atom, settled_constant, take_step};
+use soqe_form::Form;
 use soqe_term::Mem;
 use sqlite_items::Boxed;
 use std::alloc::Global;
 
+/// Chains that are shorter are put back without a list of what is known.
+const FEW: usize = 4;
+
 /// The formula made simple: its children first, from left to right; then the first row that applies at the root, and what
 /// it gives made simple. Where no row applies at the root, that is the end.
 ///
-/// What most rows give is known to be simple, or simple but for a node or two, and is not walked again; its parts are moved.
-/// Quantifiers look for names and equations in their bodies, so that the time can be the square of the formula's size. It
-/// recurses as deep as the formula.
+/// What most rows give is known to be simple, or simple but for a node or two, and is not walked again; its parts are moved. A chain
+/// of quantifiers of variables is put back by what is known of the formula behind it, in time linear in both, but for those that go
+/// by rows 35 to 37. Single quantifiers look for names and equations in their bodies, so that the time can be the square of the
+/// formula's size. It recurses as deep as the formula, where a chain of quantifiers counts as one.
 #[cycle(simplify)]
 pub fn simplify(alloc: Global, form: &Form) -> Mem<Boxed<Form>>
     ensures exact { IfOk result (λ r. r ≡ simple form.now) }
 {
-    let inner = simplify_children(alloc, form)?;
-    settle(alloc, inner)
+    match form {
+        Form::All(x, f) => {
+            let outermost = Quantifier {
+                universal: true,
+                variable: *x,
+            };
+            simplify_chain(alloc, outermost, f)
+        }
+        Form::Ex(x, f) => {
+            let outermost = Quantifier {
+                universal: false,
+                variable: *x,
+            };
+            simplify_chain(alloc, outermost, f)
+        }
+        Form::True
+        | Form::False
+        | Form::Equal(_, _)
+        | Form::Atom(_, _)
+        | Form::Not(_)
+        | Form::And(_, _)
+        | Form::Or(_, _)
+        | Form::Imp(_, _)
+        | Form::Iff(_, _)
+        | Form::All2(_, _)
+        | Form::Ex2(_, _) => simplify_node(alloc, form),
+    }
 }
 
-/// The formula with its children made simple.
+/// The formula made simple by its children, then its root.
 #[cycle(simplify)]
-fn simplify_children(alloc: Global, form: &Form) -> Mem<Boxed<Form>>
-    ensures { IfOk result (λ r. r ≡ on_children simple form.now) }
+fn simplify_node(alloc: Global, form: &Form) -> Mem<Boxed<Form>>
+    ensures { IfOk result (λ r. r ≡ simple form.now) }
+{
+    let stepped = step_at_root(alloc, form)?;
+    finish(alloc, stepped)
+}
+
+/// The step at the root, once the children are made simple.
+#[cycle(simplify)]
+fn step_at_root(alloc: Global, form: &Form) -> Mem<Stepped>
+    ensures { IfOk result (λ r. r ≡ stepped_of (on_children simple form.now)) }
 {
     match form {
-        Form::True => constant(alloc, true),
-        Form::False => constant(alloc, false),
+        Form::True => settled_constant(alloc, true),
+        Form::False => settled_constant(alloc, false),
         Form::Equal(s, t) => {
             let s = s.copy(alloc)?;
             let t = t.copy(alloc)?;
-            Boxed::new(alloc, Form::Equal(s, t))
+            at_equal(alloc, s, t)
         }
         Form::Atom(p, ts) => {
             let ts = ts.copy(alloc)?;
-            Boxed::new(alloc, Form::Atom(*p, ts))
+            settled_atom(alloc, *p, ts)
         }
         Form::Not(f) => {
             let f = simplify(alloc, f.get())?;
-            negation(alloc, f)
+            at_not(alloc, f)
         }
         Form::And(f, g) => {
             let f = simplify(alloc, f.get())?;
             let g = simplify(alloc, g.get())?;
-            conjunction(alloc, f, g)
+            at_and(alloc, f, g)
         }
         Form::Or(f, g) => {
             let f = simplify(alloc, f.get())?;
             let g = simplify(alloc, g.get())?;
-            disjunction(alloc, f, g)
+            at_or(alloc, f, g)
         }
         Form::Imp(f, g) => {
             let f = simplify(alloc, f.get())?;
             let g = simplify(alloc, g.get())?;
-            implication(alloc, f, g)
+            at_imp(alloc, f, g)
         }
         Form::Iff(f, g) => {
             let f = simplify(alloc, f.get())?;
             let g = simplify(alloc, g.get())?;
-            equivalence(alloc, f, g)
+            at_iff(alloc, f, g)
         }
         Form::All(x, f) => {
             let f = simplify(alloc, f.get())?;
-            for_all(alloc, *x, f)
+            at_universal(alloc, *x, f)
         }
         Form::Ex(x, f) => {
             let f = simplify(alloc, f.get())?;
-            exists(alloc, *x, f)
+            at_existential(alloc, *x, f)
         }
         Form::All2(p, f) => {
             let p = p.copy(alloc)?;
             let f = simplify(alloc, f.get())?;
-            for_all_tables(alloc, p, f)
+            at_universal_block(alloc, p, f)
         }
         Form::Ex2(p, f) => {
             let p = p.copy(alloc)?;
             let f = simplify(alloc, f.get())?;
-            exists_table(alloc, p, f)
+            at_existential_block(alloc, p, f)
         }
     }
 }
@@ -99,7 +143,17 @@ fn settle(alloc: Global, form: Boxed<Form>) -> Mem<Boxed<Form>>
     requires { Children IsSimple form }
     ensures { IfOk result (λ r. r ≡ simple form) }
 {
-    match take_step(alloc, form)? {
+    let stepped = take_step(alloc, form)?;
+    finish(alloc, stepped)
+}
+
+/// The formula that a step was taken at, made simple: as it is where no row applied, or by what the row gave.
+#[cycle(simplify)]
+fn finish(alloc: Global, stepped: Stepped) -> Mem<Boxed<Form>>
+    requires { IsReady stepped }
+    ensures { IfOk result (λ r. r ≡ finished stepped) }
+{
+    match stepped {
         Stepped::Settled(form) => Ok(form),
         Stepped::Made(made) => settle_made(alloc, made),
     }
@@ -133,8 +187,8 @@ fn settle_first(alloc: Global, form: Boxed<Form>) -> Mem<Boxed<Form>>
         Form::Not(_) => {
             let a = denied(alloc, form)?;
             let a = settle(alloc, a)?;
-            let made = negation(alloc, a)?;
-            settle(alloc, made)
+            let stepped = at_not(alloc, a)?;
+            finish(alloc, stepped)
         }
         Form::Imp(_, _) => {
             let parts = implication_parts(alloc, form)?;
@@ -143,8 +197,8 @@ fn settle_first(alloc: Global, form: Boxed<Form>) -> Mem<Boxed<Form>>
                 conclusion,
             } = parts;
             let a = settle(alloc, condition)?;
-            let made = implication(alloc, a, conclusion)?;
-            settle(alloc, made)
+            let stepped = at_imp(alloc, a, conclusion)?;
+            finish(alloc, stepped)
         }
         Form::True
         | Form::False
@@ -176,4 +230,119 @@ fn is_anew(row: u8) -> bool
     ensures { result ≡ is_anew_of row }
 {
     row == 35 || row == 36 || row == 37
+}
+
+/// A chain of quantifiers with the formula behind it made simple: the formula first, then one quantifier after the other from the
+/// innermost on.
+#[cycle(simplify)]
+fn simplify_chain(alloc: Global, outermost: Quantifier, form: &Boxed<Form>) -> Mem<Boxed<Form>>
+    ensures { IfOk result (λ r. r ≡ simple (quantified_of outermost form.now)) }
+{
+    if !is_quantified(form.get()) {
+        return simplify_one(alloc, outermost, form);
+    }
+    let mut chain = Vec::new(alloc);
+    chain.push(outermost)?;
+    let inner = chain_of(form.get(), &mut chain)?;
+    let body = simplify(alloc, inner)?;
+    if chain.len() < FEW {
+        put_back_few(alloc, chain, body)
+    } else {
+        put_back(alloc, chain, body)
+    }
+}
+
+/// A quantifier in front of a formula, made simple. It takes no memory but for the formula.
+#[cycle(simplify)]
+fn simplify_one(alloc: Global, quantifier: Quantifier, form: &Boxed<Form>) -> Mem<Boxed<Form>>
+    ensures { IfOk result (λ r. r ≡ simple (quantified_of quantifier form.now)) }
+{
+    let body = simplify(alloc, form.get())?;
+    put_front(alloc, quantifier, body)
+}
+
+/// A few quantifiers in front of a simple formula, made simple.
+#[cycle(simplify)]
+fn put_back_few(alloc: Global, chain: Vec<Quantifier>, form: Boxed<Form>) -> Mem<Boxed<Form>>
+    requires { IsSimple form }
+    ensures { IfOk result (λ r. r ≡ simple (quantify chain.items form)) }
+{
+    let mut chain = chain;
+    let mut made = form;
+    while let Some(quantifier) = chain.pop() {
+        made = put_front(alloc, quantifier, made)?;
+    }
+    Ok(made)
+}
+
+/// A quantifier in front of a simple formula, made simple.
+#[cycle(simplify)]
+fn put_front(alloc: Global, quantifier: Quantifier, form: Boxed<Form>) -> Mem<Boxed<Form>>
+    requires { IsSimple form }
+    ensures { IfOk result (λ r. r ≡ simple (quantified_of quantifier form)) }
+{
+    let stepped = step_quantified(alloc, quantifier, form)?;
+    finish(alloc, stepped)
+}
+
+/// Quantifiers in front of a simple formula, made simple: what is known of the formula goes on from one to the next.
+#[cycle(simplify)]
+fn put_back(alloc: Global, chain: Vec<Quantifier>, form: Boxed<Form>) -> Mem<Boxed<Form>>
+    requires { IsSimple form }
+    ensures { IfOk result (λ r. r ≡ simple (quantify chain.items form)) }
+{
+    let mut chain = chain;
+    let mut known = know(alloc, &chain, form.get())?;
+    let mut made = form;
+    while let Some(quantifier) = chain.pop() {
+        made = put_known(alloc, quantifier, made, &mut known)?;
+    }
+    Ok(made)
+}
+
+/// The innermost quantifier of a chain in front of a simple formula of which that much is known, made simple. It looks at the
+/// formula only where an equation may define the variable.
+#[cycle(simplify)]
+fn put_known(
+    alloc: Global,
+    quantifier: Quantifier,
+    form: Boxed<Form>,
+    known: &mut Known,
+) -> Mem<Boxed<Form>>
+    requires { IsSimple form }
+    ensures { IfOk result (PutsBack quantifier form known.old known.new) }
+{
+    if !known.free.has(quantifier.variable.num) {
+        return Ok(form);
+    }
+    if may_be_defined(quantifier, known) {
+        return put_looking(alloc, quantifier, form, known);
+    }
+    pass(alloc, quantifier, known)?;
+    quantified(alloc, quantifier, form)
+}
+
+/// The same for a variable that is free, with a look at the formula.
+#[cycle(simplify)]
+fn put_looking(
+    alloc: Global,
+    quantifier: Quantifier,
+    form: Boxed<Form>,
+    known: &mut Known,
+) -> Mem<Boxed<Form>>
+    requires { IsSimple form }
+    ensures { IfOk result (PutsBack quantifier form known.old known.new) }
+{
+    let stepped = step_quantified(alloc, quantifier, form)?;
+    match stepped {
+        Stepped::Settled(same) => {
+            pass(alloc, quantifier, known)?;
+            Ok(same)
+        }
+        Stepped::Made(made) => {
+            let other = settle_made(alloc, made)?;
+            learn(alloc, other.get(), known)?;
+            Ok(other)
+        }
+    }
 }

@@ -46,14 +46,16 @@ pub fn take_step(alloc: Global, form: Boxed<Form>) -> Mem<Stepped>
     }
 }
 
-fn settled_constant(alloc: Global, value: bool) -> Mem<Stepped>
+/// No row applies at a truth value.
+pub fn settled_constant(alloc: Global, value: bool) -> Mem<Stepped>
     ensures { IfOk result (λ r. r ≡ Settled (constant_of value)) }
 {
     let form = constant(alloc, value)?;
     Ok(Stepped::Settled(form))
 }
 
-fn settled_atom(alloc: Global, p: Pred, ts: Terms) -> Mem<Stepped>
+/// No row applies at an atom.
+pub fn settled_atom(alloc: Global, p: Pred, ts: Terms) -> Mem<Stepped>
     ensures { IfOk result (λ r. r ≡ Settled (Atom p ts)) }
 {
     let form = Boxed::new(alloc, Form::Atom(p, ts))?;

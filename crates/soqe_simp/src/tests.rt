@@ -1,6 +1,6 @@
 //! Formulas written behind their parts: `d` and `p` are atoms without arguments of the declared and the bound predicate 0;
-//! `0` to `2` are atoms of the declared predicate 0 with that variable; `u`, `v` and `w` are `x0 = x1`, `x1 = x0` and
-//! `x0 = x0`; `t` and `f` are true and false; `~`, `&`, `|`, `>` and `=` join what stands before them; `a` and `b` are `all`
+//! `0` to `3` are atoms of the declared predicate 0 with that variable; `u`, `v` and `w` are `x0 = x1`, `x1 = x0` and
+//! `x0 = x0`, `x`, `y` and `z` are `x1 = x2`, `x2 = x3` and `x0 = f(x1)`; `t` and `f` are true and false; `~`, `&`, `|`, `>` and `=` join what stands before them; `a` and `b` are `all`
 //! with the variables 0 and 1, `e` and `g` are `ex` with them; `A` and `E` bind the predicate 0.
 use crate::{RowTable, row_names, simplify, step};
 use soqe_form::make::{
@@ -8,7 +8,7 @@ use soqe_form::make::{
     implication, negation,
 };
 use soqe_form::{Form, PVar, Pred, same};
-use soqe_term::{Mem, Sorts, Term, Terms, Var};
+use soqe_term::{Mem, Sorts, Sym, Term, Terms, Var};
 use sqlite_items::Boxed;
 use std::alloc::Global;
 use std::test::Fail;
@@ -29,6 +29,14 @@ fn atom_of(alloc: Global, digit: u8) -> Mem<Boxed<Form>> {
     let first = Boxed::new(alloc, Term::Var(x(u64::from(digit & 3))))?;
     let rest = Boxed::new(alloc, Terms::Nil)?;
     Boxed::new(alloc, Form::Atom(Pred::Decl(0), Terms::Cons(first, rest)))
+}
+
+/// `x0 = f(x1)`.
+fn value_of(alloc: Global) -> Mem<Boxed<Form>> {
+    let first = Boxed::new(alloc, Term::Var(x(1)))?;
+    let rest = Boxed::new(alloc, Terms::Nil)?;
+    let value = Term::App(Sym::Fun(0), 0, Terms::Cons(first, rest));
+    Boxed::new(alloc, Form::Equal(Term::Var(x(0)), value))
 }
 
 fn last(alloc: Global, stack: &mut Vec<Boxed<Form>>) -> Mem<Boxed<Form>> {
@@ -68,7 +76,10 @@ fn next(alloc: Global, sign: u8, stack: &mut Vec<Boxed<Form>>) -> Mem<Boxed<Form
         b'u' => Boxed::new(alloc, Form::Equal(Term::Var(x(0)), Term::Var(x(1)))),
         b'v' => Boxed::new(alloc, Form::Equal(Term::Var(x(1)), Term::Var(x(0)))),
         b'w' => Boxed::new(alloc, Form::Equal(Term::Var(x(0)), Term::Var(x(0)))),
-        b'0'..=b'2' => atom_of(alloc, sign),
+        b'x' => Boxed::new(alloc, Form::Equal(Term::Var(x(1)), Term::Var(x(2)))),
+        b'y' => Boxed::new(alloc, Form::Equal(Term::Var(x(2)), Term::Var(x(3)))),
+        b'z' => value_of(alloc),
+        b'0'..=b'3' => atom_of(alloc, sign),
         b'&' | b'|' | b'>' | b'=' => {
             let g = last(alloc, stack)?;
             let f = last(alloc, stack)?;
@@ -237,6 +248,58 @@ fn makes_simple(rt: HostRuntime) -> Result<(), Fail> {
     ];
     for (text, wanted) in cases {
         assert!(rt; simplifies(alloc, text, wanted)?);
+    }
+    Ok(())
+}
+
+/// The formula behind `all` or `ex` with the variables of the digits, written as pairs, the outermost first.
+fn behind(alloc: Global, chain: &[u8], text: &[u8]) -> Mem<Boxed<Form>> {
+    let mut form = made(alloc, text)?;
+    let mut num = 0;
+    for sign in chain.iter().rev() {
+        match *sign {
+            b'a' => form = for_all(alloc, x(num), form)?,
+            b'e' => form = exists(alloc, x(num), form)?,
+            digit => num = u64::from(digit & 3),
+        }
+    }
+    Ok(form)
+}
+
+fn leaves(alloc: Global, text: (&[u8], &[u8]), wanted: (&[u8], &[u8])) -> Mem<bool> {
+    let f = behind(alloc, text.0, text.1)?;
+    let g = behind(alloc, wanted.0, wanted.1)?;
+    let simple = simplify(alloc, f.get())?;
+    Ok(same(simple.get(), g.get()))
+}
+
+// Chains of which none, an inner, a middle and an outer binder goes, of one kind and mixed, with one name twice, and with an
+// equation whose term has a variable that was passed.
+#[test]
+fn makes_chains_simple(rt: HostRuntime) -> Result<(), Fail> {
+    let alloc = rt.alloc();
+    let cases: [(&[u8], &[u8], &[u8], &[u8]); 18] = [
+        (b"e0e1e2e3", b"01&2&3&", b"e0e1e2e3", b"01&2&3&"),
+        (b"e0e1e2e3", b"01&2&", b"e0e1e2", b"01&2&"),
+        (b"a0e1a2e3", b"3", b"e3", b"3"),
+        (b"e0a1e2a3", b"02&", b"e0e2", b"02&"),
+        (b"e0e1e0e1", b"01&", b"e0e1", b"01&"),
+        (b"a0a1e0e1e1", b"d", b"", b"d"),
+        (b"e0e1e2e3", b"y013&&&", b"e0e1e2", b"012&&"),
+        (b"e0e2e1e3", b"x3&1&0&", b"e0e2e3", b"32&0&"),
+        (b"e0e2e3e3", b"z2&3&", b"e2e3", b"23&"),
+        (b"e0e2e0e3", b"z2&3&", b"e2e3", b"23&"),
+        (b"e2e3e0e1", b"z0&2&3&", b"e2e3e0e1", b"z0&2&3&"),
+        (b"e2e3e1e0", b"z2&3&", b"e2e3", b"23&"),
+        (b"e2e3e0a1", b"u0&2&3&", b"e2e3e0a1", b"u0&2&3&"),
+        (b"a0a1a2a3", b"z2&3&~", b"a0a1a2a3", b"z2&3&~"),
+        (b"a1a0a2a3", b"z2&3&~", b"a2a3", b"23&~"),
+        (b"a1a0a2a3", b"z2&3>", b"a2a3", b"23>"),
+        (b"e1e0a2a3", b"z2&3&", b"e1e0a2a3", b"z2&3&"),
+        (b"a1a0e2e3", b"z2&3>", b"a1a0e2e3", b"z2&3>"),
+    ];
+    for (chain, text, left, rest) in cases {
+        assert!(rt; leaves(alloc, (chain, text), (left, rest))?);
     }
     Ok(())
 }
