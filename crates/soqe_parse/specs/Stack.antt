@@ -32,9 +32,9 @@ call_view c = record { name = c.name; done = done_view c.done }
 abbrev pub frame : Frame → Pending
 frame frames.InParen = InParen
 frame frames.InNot = InNot
-frame (frames.InBind q x s) = InBind q x s
-frame (frames.InBinary op l) = InBinary op (view l)
-frame (frames.InBind2 q x ss) = InBind2 q x ss
+frame (frames.InBind b) = InBind b.value.quantifier b.value.name b.value.sort
+frame (frames.InBinary op l) = InBinary op (view l.value)
+frame (frames.InBind2 b) = InBind2 b.value.quantifier b.value.name b.value.sorts
 
 -- the stack, whose top is the last item
 unfoldable pub stack_of : List Frame → List Pending

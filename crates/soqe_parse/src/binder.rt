@@ -1,12 +1,54 @@
-//! Binders of predicates: `all2 P(s, t).`, piece by piece.
-ghost use Rattle.std.specs.Prelude.{◌≡◌};
-ghost use Rattle.soqe_parse.specs.Machine.{step};
-ghost use Rattle.soqe_parse.specs.Stack.{IsBinder2, state_of, Gives};
+//! Binders: what they leave on the stack, and those of predicates, `all2 P(s, t).`, piece by piece.
+ghost use Rattle.std.specs.Prelude.{◌≡◌, ◌∷◌};
+ghost use Rattle.soqe_parse.specs.Machine.{InBind, InBind2, Want, step};
+ghost use Rattle.soqe_parse.specs.Stack.{IsBinder2, stack_of, state_of, Gives};
 
 use crate::frame::{Frame, Mode, StepError};
 use crate::operand::pushed;
-use soqe_syntax::{Piece, Spans};
+use soqe_syntax::{Piece, PredicateBinder, Quantifier, Span, Spans, VariableBinder};
 use std::alloc::Global;
+
+/// Behind a binder of a variable.
+pub(crate) fn variable_bound(
+    alloc: Global,
+    stack: &mut Vec<Frame>,
+    quantifier: Quantifier,
+    name: Span,
+    sort: Option<Span>,
+) -> Result<Mode, StepError>
+    ensures { Gives stack.new.items result (Want (InBind quantifier name sort ∷ stack_of stack.old.items)) }
+{
+    let binder = VariableBinder {
+        quantifier,
+        name,
+        sort,
+    };
+    match Box::new(alloc, binder) {
+        Ok(binder) => pushed(stack, Frame::InBind(binder)),
+        Err(_) => Err(StepError::Memory),
+    }
+}
+
+/// Behind a binder of a predicate.
+fn predicate_bound(
+    alloc: Global,
+    stack: &mut Vec<Frame>,
+    quantifier: Quantifier,
+    name: Span,
+    sorts: Spans,
+) -> Result<Mode, StepError>
+    ensures { Gives stack.new.items result (Want (InBind2 quantifier name sorts ∷ stack_of stack.old.items)) }
+{
+    let binder = PredicateBinder {
+        quantifier,
+        name,
+        sorts,
+    };
+    match Box::new(alloc, binder) {
+        Ok(binder) => pushed(stack, Frame::InBind2(binder)),
+        Err(_) => Err(StepError::Memory),
+    }
+}
 
 /// A step inside a binder of a predicate.
 pub(crate) fn binder_stepped(
@@ -24,7 +66,7 @@ pub(crate) fn binder_stepped(
             _ => Err(StepError::Dead),
         },
         Mode::Named2(quantifier, name) => match next {
-            Piece::Dot => pushed(stack, Frame::InBind2(quantifier, name, Spans::new(alloc))),
+            Piece::Dot => predicate_bound(alloc, stack, quantifier, name, Spans::new(alloc)),
             Piece::Open => Ok(Mode::WantSort(quantifier, name, Spans::new(alloc))),
             _ => Err(StepError::Dead),
         },
@@ -44,7 +86,7 @@ pub(crate) fn binder_stepped(
             _ => Err(StepError::Dead),
         },
         Mode::Sorted2(quantifier, name, sorts) => match next {
-            Piece::Dot => pushed(stack, Frame::InBind2(quantifier, name, sorts)),
+            Piece::Dot => predicate_bound(alloc, stack, quantifier, name, sorts),
             _ => Err(StepError::Dead),
         },
         _ => Err(StepError::Dead),

@@ -3,7 +3,7 @@ ghost use Rattle.std.specs.Prelude.{◌≡◌};
 ghost use Rattle.soqe_parse.specs.Machine.{Want, step};
 ghost use Rattle.soqe_parse.specs.Stack.{stack_of, state_of, Gives};
 
-use crate::binder::binder_stepped;
+use crate::binder::{binder_stepped, variable_bound};
 use crate::frame::{Frame, Mode, StepError};
 use crate::operand::{operated, pushed, shut};
 use crate::term::{closed, comma_read, equated, opened, signed};
@@ -32,7 +32,7 @@ pub(crate) fn stepped(
             _ => Err(StepError::Dead),
         },
         Mode::Named(quantifier, name) => match next {
-            Piece::Dot => pushed(stack, Frame::InBind(quantifier, name, None)),
+            Piece::Dot => variable_bound(alloc, stack, quantifier, name, None),
             Piece::Colon => Ok(Mode::Sorting(quantifier, name)),
             _ => Err(StepError::Dead),
         },
@@ -41,7 +41,7 @@ pub(crate) fn stepped(
             _ => Err(StepError::Dead),
         },
         Mode::Sorted(quantifier, name, sort) => match next {
-            Piece::Dot => pushed(stack, Frame::InBind(quantifier, name, Some(sort))),
+            Piece::Dot => variable_bound(alloc, stack, quantifier, name, Some(sort)),
             _ => Err(StepError::Dead),
         },
         Mode::WantTerm(side, calls) => match next {

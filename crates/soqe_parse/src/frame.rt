@@ -1,14 +1,16 @@
 //! The state of the machine for formulas: what waits for an operand, and what may come next.
-use soqe_syntax::{Expr, Exprs, Operator, Quantifier, Shape, Span, Spans};
+use soqe_syntax::{
+    Expr, Exprs, Operator, PredicateBinder, Quantifier, Shape, Span, Spans, VariableBinder,
+};
 
-/// What waits for an operand.
+/// What waits for an operand. What is large lies in a box, so that a negation or a parenthesis takes little memory.
 #[derive(Drop)]
 pub(crate) enum Frame {
     InParen,
     InNot,
-    InBind(Quantifier, Span, Option<Span>),
-    InBinary(Operator, Shape),
-    InBind2(Quantifier, Span, Spans),
+    InBind(Box<VariableBinder>),
+    InBinary(Operator, Box<Shape>),
+    InBind2(Box<PredicateBinder>),
 }
 
 /// The left side of an equation.

@@ -47,9 +47,9 @@ fn frame_waits(level: u8, pending: &Frame) -> bool
     match pending {
         Frame::InParen => true,
         Frame::InNot => false,
-        Frame::InBind(_, _, _) => false,
+        Frame::InBind(_) => false,
         Frame::InBinary(op, _) => strength_of(*op) < level,
-        Frame::InBind2(_, _, _) => false,
+        Frame::InBind2(_) => false,
     }
 }
 
@@ -60,23 +60,9 @@ fn closed(alloc: Global, pending: Frame, shape: Shape) -> Result<Shape, AllocErr
     match pending {
         Frame::InParen => Ok(Shape::Paren(Box::new(alloc, shape)?)),
         Frame::InNot => Ok(Shape::Not(Box::new(alloc, shape)?)),
-        Frame::InBind(quantifier, name, sort) => Ok(Shape::Bind(
-            quantifier,
-            name,
-            sort,
-            Box::new(alloc, shape)?,
-        )),
-        Frame::InBind2(quantifier, name, sorts) => Ok(Shape::Bind2(
-            quantifier,
-            name,
-            sorts,
-            Box::new(alloc, shape)?,
-        )),
-        Frame::InBinary(op, first) => Ok(Shape::Binary(
-            op,
-            Box::new(alloc, first)?,
-            Box::new(alloc, shape)?,
-        )),
+        Frame::InBind(binder) => Ok(Shape::Bind(binder, Box::new(alloc, shape)?)),
+        Frame::InBind2(binder) => Ok(Shape::Bind2(binder, Box::new(alloc, shape)?)),
+        Frame::InBinary(op, first) => Ok(Shape::Binary(op, first, Box::new(alloc, shape)?)),
     }
 }
 
@@ -127,7 +113,10 @@ pub(crate) fn operated(
     if strength_of(op) < wanted(stack) {
         return Err(StepError::Dead);
     }
-    pushed(stack, Frame::InBinary(op, first))
+    match Box::new(alloc, first) {
+        Ok(first) => pushed(stack, Frame::InBinary(op, first)),
+        Err(_) => Err(StepError::Memory),
+    }
 }
 
 /// The level that the operand must have.
@@ -137,9 +126,9 @@ fn asked(pending: &Frame) -> u8
     match pending {
         Frame::InParen => 0,
         Frame::InNot => 4,
-        Frame::InBind(_, _, _) => 4,
+        Frame::InBind(_) => 4,
         Frame::InBinary(op, _) => right_of(*op),
-        Frame::InBind2(_, _, _) => 4,
+        Frame::InBind2(_) => 4,
     }
 }
 

@@ -104,7 +104,10 @@ pub(crate) fn ended(alloc: Global, stack: Vec<Frame>, mode: Mode) -> Result<Shap
             let mut calls = calls;
             match calls.pop() {
                 Some(_) => Err(StepError::Dead),
-                None => closed_all(alloc, stack, atomic(side, term)),
+                None => match atomic(alloc, side, term) {
+                    Ok(shape) => closed_all(alloc, stack, shape),
+                    Err(_) => Err(StepError::Memory),
+                },
             }
         }
         _ => Err(StepError::Dead),

@@ -6,7 +6,7 @@ ghost use Rattle.soqe_parse.specs.Stack.{done_view, side_view, calls_of, stack_o
 
 use crate::frame::{Frame, LeftSide, Mode, OpenCall, StepError};
 use crate::operand::{operated, shut};
-use soqe_syntax::{Expr, Exprs, Operator, Shape, Span};
+use soqe_syntax::{Equated, Expr, Exprs, Operator, Shape, Span};
 use std::alloc::{AllocError, Global};
 
 /// The arguments with one more.
@@ -20,18 +20,26 @@ fn added(alloc: Global, done: Option<Exprs>, term: Expr) -> Result<Exprs, AllocE
 }
 
 /// The formula of a term, or of an equation with the term on its right.
-pub(crate) fn atomic(side: Option<LeftSide>, term: Expr) -> Shape
-    ensures { view result ≡ atomic (side_view side) (term_view term) }
+pub(crate) fn atomic(alloc: Global, side: Option<LeftSide>, term: Expr) -> Result<Shape, AllocError>
+    ensures { IfOk result (λ s. view s ≡ atomic (side_view side) (term_view term)) }
 {
     match side {
-        None => Shape::Atom(term),
+        None => Ok(Shape::Atom(Box::new(alloc, term)?)),
         Some(
             LeftSide {
                 negated,
                 sign,
                 term: left,
             },
-        ) => Shape::Equation(negated, sign, left, term),
+        ) => {
+            let equated = Equated {
+                negated,
+                sign,
+                left,
+                right: term,
+            };
+            Ok(Shape::Equation(Box::new(alloc, equated)?))
+        }
     }
 }
 
@@ -97,7 +105,10 @@ pub(crate) fn closed(
 {
     let mut calls = calls;
     match calls.pop() {
-        None => shut(alloc, stack, atomic(side, term)),
+        None => match atomic(alloc, side, term) {
+            Ok(shape) => shut(alloc, stack, shape),
+            Err(_) => Err(StepError::Memory),
+        },
         Some(OpenCall { name, done }) => {
             let Ok(done) = added(alloc, done, term) else {
                 return Err(StepError::Memory);
@@ -155,6 +166,9 @@ pub(crate) fn signed(
     let mut calls = calls;
     match calls.pop() {
         Some(_) => Err(StepError::Dead),
-        None => operated(alloc, stack, atomic(side, term), op),
+        None => match atomic(alloc, side, term) {
+            Ok(shape) => operated(alloc, stack, shape, op),
+            Err(_) => Err(StepError::Memory),
+        },
     }
 }

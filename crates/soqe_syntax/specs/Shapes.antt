@@ -23,11 +23,11 @@ abbrev mutual
 -- the tree of a shape
 abbrev pub view : Shape → Tree Span
 view (shape.Constant b) = Constant b
-view (shape.Atom t) = Atom (term_view t)
-view (shape.Equation b at l r) = Equation b at (term_view l) (term_view r)
+view (shape.Atom t) = Atom (term_view t.value)
+view (shape.Equation e) = Equation e.value.negated e.value.sign (term_view e.value.left) (term_view e.value.right)
 view (shape.Not' p a) = Not (view a)
-view (shape.Bind' q x s p a) = Bind q x s (view a)
-view (shape.Bind2' q x ss p a) = Bind2 q x ss (view a)
+view (shape.Bind' b p a) = Bind b.value.quantifier b.value.name b.value.sort (view a)
+view (shape.Bind2' b p a) = Bind2 b.value.quantifier b.value.name b.value.sorts (view a)
 view (shape.Binary' op p l q r) = Binary op (view l) (view r)
 view (shape.Paren' p a) = Paren (view a)
 

@@ -13,4 +13,4 @@ mod shape;
 pub use laws::{two_forms, two_forms_of_problems};
 pub use piece::{Head, Operator, Piece, Quantifier, Span};
 pub use pieces::piece_of;
-pub use shape::{Expr, Exprs, Item, Items, Shape, Spans};
+pub use shape::{Equated, Expr, Exprs, Item, Items, PredicateBinder, Shape, Spans, VariableBinder};

@@ -21,18 +21,40 @@ pub enum Exprs {
     More(Box<Exprs>, Box<Expr>),
 }
 
-/// A formula as it is written.
+/// An equation: whether it is negated, its sign, and its sides.
+#[derive(Drop)]
+pub struct Equated {
+    pub negated: bool,
+    pub sign: Span,
+    pub left: Expr,
+    pub right: Expr,
+}
+
+/// A binder of a variable, with its sort where one is written.
+#[derive(Drop)]
+pub struct VariableBinder {
+    pub quantifier: Quantifier,
+    pub name: Span,
+    pub sort: Option<Span>,
+}
+
+/// A binder of a predicate, with its argument sorts.
+#[derive(Drop)]
+pub struct PredicateBinder {
+    pub quantifier: Quantifier,
+    pub name: Span,
+    pub sorts: Spans,
+}
+
+/// A formula as it is written. What is large lies in a box, so that a negation or a parenthesis takes little memory.
 #[derive(Drop)]
 pub enum Shape {
     Constant(bool),
-    Atom(Expr),
-    /// Whether it is negated, its sign, and its sides.
-    Equation(bool, Span, Expr, Expr),
+    Atom(Box<Expr>),
+    Equation(Box<Equated>),
     Not(Box<Shape>),
-    /// A variable with its sort, where one is written.
-    Bind(Quantifier, Span, Option<Span>, Box<Shape>),
-    /// A predicate with its argument sorts.
-    Bind2(Quantifier, Span, Spans, Box<Shape>),
+    Bind(Box<VariableBinder>, Box<Shape>),
+    Bind2(Box<PredicateBinder>, Box<Shape>),
     Binary(Operator, Box<Shape>, Box<Shape>),
     Paren(Box<Shape>),
 }

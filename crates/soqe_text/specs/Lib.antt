@@ -1,3 +1,4 @@
+pub mod Bare
 pub mod FormTables
 pub mod Lexing
 pub mod Lookups

@@ -6,6 +6,7 @@
 //! is well sorted. `specs/SpelledForm.antt` says the same of formulas by themselves, which `read_form` reads by tables.
 #![tactic(auto)]
 
+mod bare;
 mod declaring;
 mod entering;
 mod form_naming;

@@ -6,6 +6,7 @@ ghost use Rattle.soqe_text.specs.Lookups.{found_by};
 ghost use Rattle.soqe_text.specs.Naming.{is_usable, is_unknown_by, unknown_name_by, unknown_of_by, unknown_in_by, unknown_in_all_by, unknown_sort_by, variable_bound, predicate_bound, named};
 ghost use Rattle.soqe_text.specs.Refused.{OnRefusedAt};
 
+use crate::bare::bare;
 use crate::entering::{enter_predicate, enter_variable};
 use crate::lookup::{Lookup, Meaning, found};
 use crate::new_names::NameFault;
@@ -208,8 +209,28 @@ fn predicate_bound(
 }
 
 /// The names of a formula: those that its binders bring join the signature. The error is the first refused name, after
-/// which nothing is known of signature and scopes.
+/// which nothing is known of signature and scopes. The recursion is as deep as the formula without its negations and
+/// parentheses.
+#[cycle(naming)]
 pub(crate) fn named(
+    bytes: &[u8],
+    sig: &mut Signature,
+    vars: &mut Scope,
+    preds: &mut Scope,
+    shape: &Shape,
+) -> Result<(), Refused>
+    ensures ok { OnOk result (named bytes.now sig.old vars.old preds.old (view shape.now) ≡ Ok sig.new) }
+    ensures vars { OnOk result (vars.new ≡ vars.old) }
+    ensures preds { OnOk result (preds.new ≡ preds.old) }
+    ensures refused { OnRefusedAt result (λ at. named bytes.now sig.old vars.old preds.old (view shape.now) ≡ Err at) }
+{
+    let (_negations, inner) = bare(shape);
+    named_bare(bytes, sig, vars, preds, inner)
+}
+
+/// The names of a formula, where no negation and no parenthesis is left round it that a loop goes through.
+#[cycle(naming)]
+fn named_bare(
     bytes: &[u8],
     sig: &mut Signature,
     vars: &mut Scope,
@@ -230,19 +251,24 @@ pub(crate) fn named(
             preds,
             term,
         )),
-        Shape::Equation(_, _, left, right) => {
-            unless_refused(unknown_in_two(bytes, &Lookup::Problem(&*sig), vars, preds, left, right))
-        }
+        Shape::Equation(sides) => unless_refused(unknown_in_two(
+            bytes,
+            &Lookup::Problem(&*sig),
+            vars,
+            preds,
+            &sides.left,
+            &sides.right,
+        )),
         Shape::Not(body) => named(bytes, sig, vars, preds, body),
-        Shape::Bind(_, name, sort, body) => {
-            let num = variable_bound(bytes, sig, vars, preds, *name, *sort)?;
+        Shape::Bind(binder, body) => {
+            let num = variable_bound(bytes, sig, vars, preds, binder.name, binder.sort)?;
             vars.enter(num)?;
             named(bytes, sig, vars, preds, body)?;
             vars.leave()?;
             Ok(())
         }
-        Shape::Bind2(_, name, sorts, body) => {
-            let num = predicate_bound(bytes, sig, vars, preds, *name, sorts)?;
+        Shape::Bind2(binder, body) => {
+            let num = predicate_bound(bytes, sig, vars, preds, binder.name, &binder.sorts)?;
             preds.enter(num)?;
             named(bytes, sig, vars, preds, body)?;
             preds.leave()?;

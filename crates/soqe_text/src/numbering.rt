@@ -4,11 +4,13 @@
 ghost use Rattle.std.specs.Prelude.{◌≡◌, None, Some, IfOk, OnOk};
 ghost use Rattle.soqe_syntax.specs.Shapes.{view, term_view};
 ghost use Rattle.soqe_form.specs.declared.form.Form.{Equal};
+ghost use Rattle.soqe_text.specs.Bare.{negations};
 ghost use Rattle.soqe_text.specs.Refused.{OnRefusedAt};
 ghost use Rattle.soqe_text.specs.Lookups.{names_of, places};
 ghost use Rattle.soqe_text.specs.Uses.{binder_sort_by, wrong_by, wrong_in_atom_by, wrong_in_equation_by};
 ghost use Rattle.soqe_text.specs.Numbering.{negated, over_elements, quantified_over, joined_by, numbered_term_by, numbered_atom_by, numbered_by};
 
+use crate::bare::bare;
 use crate::declaring::{sort_number, sort_numbers};
 use crate::known::{Known, put};
 use crate::lookup::Lookup;
@@ -17,7 +19,7 @@ use crate::spans::text;
 use crate::terms::{numbered_atom, numbered_term};
 use crate::uses::{no_sort_in, num_of, wrong_in_atom, wrong_in_equation, wrong_sort};
 use soqe_form::{Form, PVar, make};
-use soqe_syntax::{Expr, Operator, Quantifier, Shape, Span};
+use soqe_syntax::{Equated, Expr, Operator, Quantifier, Shape, Span};
 use soqe_term::{Mem, Sorts, Var};
 use sqlite_items::Boxed;
 use std::alloc::Global;
@@ -52,6 +54,18 @@ fn negated(alloc: Global, is_negated: bool, f: Boxed<Form>) -> Mem<Boxed<Form>>
     }
 }
 
+/// A formula within so many negations.
+#[tactic(auto, using(crate::proofs::Wrapped::negations_more), unfolding(soqe_form::specs::Boxes::boxes, soqe_term::specs::Boxes::boxes))]
+fn negations(alloc: Global, count: u64, f: Boxed<Form>) -> Mem<Boxed<Form>>
+    ensures { IfOk result (λ r. r ≡ negations count f) }
+{
+    let mut f = f;
+    for _made in 0..count {
+        f = make::negation(alloc, f)?;
+    }
+    Ok(f)
+}
+
 /// The equation of two terms, or its negation.
 fn numbered_equation(
     alloc: Global,
@@ -68,6 +82,32 @@ fn numbered_equation(
     let right = numbered_term(alloc, bytes, look, vars, right)?;
     let f = Boxed::new(alloc, Form::Equal(left, right))?;
     Ok(negated(alloc, is_negated, f)?)
+}
+
+/// An equation, if its sides are used rightly.
+fn equation(
+    alloc: Global,
+    bytes: &[u8],
+    look: &Lookup,
+    vars: &Known<u32>,
+    sides: &Equated,
+) -> Result<Boxed<Form>, Refused>
+    ensures right { OnOk result (wrong_in_equation_by bytes.now (names_of look.now) (places vars.now) sides.now.sign (term_view sides.now.left) (term_view sides.now.right) ≡ None) }
+    ensures form { IfOk result (λ f. f ≡ negated sides.now.negated (Equal (numbered_term_by bytes.now (names_of look.now) (places vars.now) (term_view sides.now.left)) (numbered_term_by bytes.now (names_of look.now) (places vars.now) (term_view sides.now.right)))) }
+    ensures refused { OnRefusedAt result (λ at. wrong_in_equation_by bytes.now (names_of look.now) (places vars.now) sides.now.sign (term_view sides.now.left) (term_view sides.now.right) ≡ Some at) }
+{
+    match wrong_in_equation(bytes, look, vars, sides.sign, &sides.left, &sides.right) {
+        Some(at) => Err(Refused::At(at)),
+        None => Ok(numbered_equation(
+            alloc,
+            bytes,
+            look,
+            vars,
+            sides.negated,
+            &sides.left,
+            &sides.right,
+        )?),
+    }
 }
 
 /// A formula quantified over elements.
@@ -123,9 +163,31 @@ fn binder_sort(bytes: &[u8], look: &Lookup, sort: Option<Span>) -> u32
 }
 
 /// The formula of a shape, with numbers for its names. The error is the first wrong use of a name, after which nothing is
-/// known of the sorts at the place.
-#[tactic(auto, using(crate::proofs::Lookups::taken_back), unfolding(soqe_form::specs::Boxes::boxes, soqe_term::specs::Boxes::boxes))]
+/// known of the sorts at the place. The recursion is as deep as the formula without its negations and parentheses.
+#[cycle(numbering)]
 pub(crate) fn numbered(
+    alloc: Global,
+    bytes: &[u8],
+    look: &Lookup,
+    vars: &mut Known<u32>,
+    preds: &mut Known<Sorts>,
+    shape: &Shape,
+) -> Result<Boxed<Form>, Refused>
+    ensures right { OnOk result (wrong_by bytes.now (names_of look.now) (places vars.old) (places preds.old) (view shape.now) ≡ None) }
+    ensures form { IfOk result (λ f. f ≡ numbered_by bytes.now (names_of look.now) (places vars.old) (view shape.now)) }
+    ensures vars { OnOk result (places vars.new ≡ places vars.old) }
+    ensures preds { OnOk result (places preds.new ≡ places preds.old) }
+    ensures refused { OnRefusedAt result (λ at. wrong_by bytes.now (names_of look.now) (places vars.old) (places preds.old) (view shape.now) ≡ Some at) }
+{
+    let (count, inner) = bare(shape);
+    let f = numbered_bare(alloc, bytes, look, vars, preds, inner)?;
+    Ok(negations(alloc, count, f)?)
+}
+
+/// The formula of a shape, where no negation and no parenthesis is left round it that a loop goes through.
+#[cycle(numbering)]
+#[tactic(auto, using(crate::proofs::Lookups::taken_back), unfolding(soqe_form::specs::Boxes::boxes, soqe_term::specs::Boxes::boxes))]
+fn numbered_bare(
     alloc: Global,
     bytes: &[u8],
     look: &Lookup,
@@ -142,37 +204,32 @@ pub(crate) fn numbered(
     match shape {
         Shape::Constant(value) => Ok(make::constant(alloc, *value)?),
         Shape::Atom(expr) => atom(alloc, bytes, look, vars, preds, expr),
-        Shape::Equation(is_negated, at, left, right) => {
-            match wrong_in_equation(bytes, look, vars, *at, left, right) {
-                Some(at) => Err(Refused::At(at)),
-                None => Ok(numbered_equation(alloc, bytes, look, vars, *is_negated, left, right)?),
-            }
-        }
+        Shape::Equation(sides) => equation(alloc, bytes, look, vars, sides),
         Shape::Not(body) => {
             let f = numbered(alloc, bytes, look, vars, preds, body)?;
             Ok(make::negation(alloc, f)?)
         }
-        Shape::Bind(quantifier, name, sort, body) => match wrong_sort(bytes, look, *sort) {
+        Shape::Bind(binder, body) => match wrong_sort(bytes, look, binder.sort) {
             Some(at) => Err(Refused::At(at)),
             None => {
-                let num = num_of(look, text(bytes, *name));
-                let sort = binder_sort(bytes, look, *sort);
+                let num = num_of(look, text(bytes, binder.name));
+                let sort = binder_sort(bytes, look, binder.sort);
                 let outer = put(vars, num, Some(sort))?;
                 let f = numbered(alloc, bytes, look, vars, preds, body)?;
                 put(vars, num, outer)?;
-                Ok(over_elements(alloc, *quantifier, Var { num, sort }, f)?)
+                Ok(over_elements(alloc, binder.quantifier, Var { num, sort }, f)?)
             }
         },
-        Shape::Bind2(quantifier, name, names, body) => match no_sort_in(bytes, look, names) {
+        Shape::Bind2(binder, body) => match no_sort_in(bytes, look, &binder.sorts) {
             Some(at) => Err(Refused::At(at)),
             None => {
-                let num = num_of(look, text(bytes, *name));
-                let args = sort_numbers(alloc, bytes, look, names)?;
+                let num = num_of(look, text(bytes, binder.name));
+                let args = sort_numbers(alloc, bytes, look, &binder.sorts)?;
                 let bound = args.copy(alloc)?;
                 let outer = put(preds, num, Some(bound))?;
                 let f = numbered(alloc, bytes, look, vars, preds, body)?;
                 put(preds, num, outer)?;
-                Ok(quantified_over(alloc, *quantifier, PVar { num, args }, f)?)
+                Ok(quantified_over(alloc, binder.quantifier, PVar { num, args }, f)?)
             }
         },
         Shape::Binary(op, left, right) => {
