@@ -9,11 +9,12 @@ use Rattle.soqe_term.proofs.Choices.{or_none_first, or_none_second}
 use Rattle.soqe_form.specs.declared.form.Pred.{Pred}
 use Rattle.soqe_form.specs.declared.form.Pred.TheVariants.{Bound}
 use Rattle.soqe_form.specs.declared.form.PVar.{PVar}
-use Rattle.soqe_form.specs.declared.form.Form.{Form, Equal, And, Or}
+use Rattle.soqe_form.specs.declared.form.Form.{Form, Equal, And}
 use Rattle.soqe_form.specs.Boxes.{boxes}
 use Rattle.soqe_form.specs.Places.{has_blocks}
-use Rattle.soqe_norm.specs.Folds.{or_after, any_of, and_after, all_of, exists_in}
+use Rattle.soqe_norm.specs.Folds.{any_of}
 use Rattle.soqe_norm.specs.Nnf.{nnf}
+use Rattle.soqe_norm.proofs.Folded.{has_blocks-any, has_blocks-case}
 use Rattle.soqe_norm.proofs.Nnfs.{has_blocks-nnf}
 use Rattle.soqe_psub.proofs.PredSubLaws.{no_blocks_of}
 use Rattle.soqe_ack.specs.Acked.{AreConditions, no_more, no_guard, guard, AreCleared, all_done, replaced, rest, IsAcked}
@@ -31,31 +32,6 @@ equations-bare [] Nil = refl
 equations-bare [] (Cons' _ (one-t t end-t) _ (ones-t ts ends-t)) = refl
 equations-bare (x ∷ xs) Nil = refl
 equations-bare (x ∷ xs) (Cons' _ (one-t t end-t) _ (ones-t ts ends-t)) = after-bare (Equal (var x) t) xs ts refl
-
-or-bare : (f : Form) (fs : List Form) → has_blocks f ≡ false → list_any has_blocks fs ≡ false → has_blocks (or_after f fs) ≡ false
-unfolding boxes
-or-bare f [] h k = h
-or-bare f (g ∷ gs) h k =
-    or-bare (Or f g) gs (or_from (has_blocks f) (has_blocks g) h (or_none_first (has_blocks g) (list_any has_blocks gs) k)) (or_none_second (has_blocks g) (list_any has_blocks gs) k)
-
-any-bare : (fs : List Form) → list_any has_blocks fs ≡ false → has_blocks (any_of fs) ≡ false
-any-bare [] k = refl
-any-bare (f ∷ fs) k = or-bare f fs (or_none_first (has_blocks f) (list_any has_blocks fs) k) (or_none_second (has_blocks f) (list_any has_blocks fs) k)
-
-and-bare : (f : Form) (fs : List Form) → has_blocks f ≡ false → list_any has_blocks fs ≡ false → has_blocks (and_after f fs) ≡ false
-unfolding boxes
-and-bare f [] h k = h
-and-bare f (g ∷ gs) h k =
-    and-bare (And f g) gs (or_from (has_blocks f) (has_blocks g) h (or_none_first (has_blocks g) (list_any has_blocks gs) k)) (or_none_second (has_blocks g) (list_any has_blocks gs) k)
-
-all-bare : (fs : List Form) → list_any has_blocks fs ≡ false → has_blocks (all_of fs) ≡ false
-all-bare [] k = refl
-all-bare (f ∷ fs) k = and-bare f fs (or_none_first (has_blocks f) (list_any has_blocks fs) k) (or_none_second (has_blocks f) (list_any has_blocks fs) k)
-
-exists-bare : (vars : List Var) (f : Form) → has_blocks (exists_in vars f) ≡ has_blocks f
-unfolding boxes
-exists-bare [] f = refl
-exists-bare (x ∷ vars) f = exists-bare vars f
 
 module _ (s : Bool) (q : Pred) (xs : List Var) where
   parts-bare : {f c r : Form} → IsGuard s q xs f c r → has_blocks f ≡ false → (has_blocks c ≡ false) × (has_blocks r ≡ false)
@@ -99,5 +75,5 @@ pub acked-bare : (s : Bool) (p : PVar) (keep : List ℕ) (vars : List Var) (fs :
     → list_any has_blocks fs ≡ false → (has_blocks value ≡ false) × (has_blocks form ≡ false)
 acked-bare s p keep vars fs params value form a k =
     let v : has_blocks value ≡ false =
-    ap has_blocks a.is_value ∙ value-bare s (any_of a.conditions) (any-bare a.conditions (conditions-bare s (Bound p.num) params a.conditioned k)) in
-    (v, ap has_blocks a.is_form ∙ exists-bare vars (all_of a.conjuncts) ∙ all-bare a.conjuncts (cleared-bare s (Bound p.num) params value v a.cleared k))
+    ap has_blocks a.is_value ∙ value-bare s (any_of a.conditions) (has_blocks-any a.conditions ∙ conditions-bare s (Bound p.num) params a.conditioned k) in
+    (v, ap has_blocks a.is_form ∙ has_blocks-case vars a.conjuncts ∙ cleared-bare s (Bound p.num) params value v a.cleared k)

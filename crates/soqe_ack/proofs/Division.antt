@@ -5,6 +5,7 @@ use Rattle.soqe_term.specs.declared.term.Var.{Var}
 use Rattle.soqe_form.specs.declared.form.Pred.{Pred}
 use Rattle.soqe_form.specs.declared.form.Form.{Form}
 use Rattle.soqe_norm.specs.Rises.{has_sign}
+use Rattle.soqe_psub.specs.PredSubst.{IsPredSub}
 use Rattle.soqe_ack.specs.declared.dividing.Role.{Role}
 use Rattle.soqe_ack.specs.declared.dividing.Role.TheVariants as role
 use Rattle.soqe_ack.specs.declared.dividing.Share.{Share}
@@ -35,7 +36,7 @@ module _ (s : Bool) (q : Pred) (xs : List Var) where
   shares-push : {fs gs : List Form} {us vs : List Share} → AreShares s q xs fs us → AreShares s q xs gs vs → AreShares s q xs (fs ++ gs) (us ++ vs)
   shares-push nothing b = b
   shares-push (lacks h a) b = lacks h (shares-push a b)
-  shares-push (waits h a) b = waits h (shares-push a b)
+  shares-push (waits h w a) b = waits h w (shares-push a b)
   shares-push (guards h g a) b = guards h g (shares-push a b)
 
   -- what is known of one more conjunct
@@ -62,7 +63,7 @@ module _ (s : Bool) (q : Pred) (xs : List Var) where
     conditions = k.conditions;
     conditioned = no_guard-push f k.conditioned i.0;
     joined = k.joined;
-    shared = subst (λ g. AreShares s q xs (f ∷ []) (share.Waits g ∷ [])) (sym i.1) (waits i.0 nothing);
+    shared = waits i.0 i.1 nothing;
   }
   more fs f d role.InWay k i h = let h : true ≡ false = h in cc
 
@@ -102,5 +103,7 @@ module _ (s : Bool) (q : Pred) (xs : List Var) where
   pub shares-clear : (value : Form) {fs : List Form} {shares : List Share} → AreShares s q xs fs shares → AreCleared s q xs value fs (map (share_form q xs value) shares)
   shares-clear value nothing = all_done
   shares-clear value (lacks {f = f} h k) = replaced (no_sign q f h s) (pred_sub-lacks q xs value f h) (shares-clear value k)
-  shares-clear value (waits {f = f} h k) = replaced h (is_pred_sub q xs value f) (shares-clear value k)
+  shares-clear value (waits {u = share.Ready g} h w k) = absurd w
+  shares-clear value (waits {u = share.Waits g} h w k) =
+      replaced h (subst (λ f. IsPredSub q xs value f (share_form q xs value (share.Waits g))) w (is_pred_sub q xs value g.now)) (shares-clear value k)
   shares-clear value (guards h g k) = rest h g (shares-clear value k)

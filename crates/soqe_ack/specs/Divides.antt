@@ -20,7 +20,7 @@ use Rattle.soqe_ack.specs.declared.dividing.Divided.{Divided}
 abbrev pub IsRole : Bool → Pred → List Var → Form → Role → Type 0
 IsRole s q xs f (role.Guard parts) = (has_sign s q f ≡ true) × IsGuard s q xs f parts.condition parts.rest
 IsRole s q xs f (role.Lacks g) = (has_free q f ≡ false) × (g ≡ f)
-IsRole s q xs f (role.Waits g) = (has_sign s q f ≡ false) × (g ≡ f)
+IsRole s q xs f (role.Waits g) = (has_sign s q f ≡ false) × (g.now ≡ f)
 IsRole s q xs f role.InWay = (has_sign s q f ≡ true) × ((c r : Form) → IsGuard s q xs f c r → ⊥)
 
 -- it has the sign and is no guard
@@ -49,13 +49,18 @@ pub record Takes (old : Divided) (r : Role) (new : Divided) : Type 0 where
   pub condition : new.condition ≡ next_condition old.condition r
   pub shares : new.shares.items ≡ old.shares.items ++ next_share r
 
+-- the share is that the conjunct gets the value
+abbrev pub WaitsFor : Form → Share → Type 0
+WaitsFor f (share.Ready g) = ⊥
+WaitsFor f (share.Waits g) = g.now ≡ f
+
 -- what becomes of each conjunct
 pub data AreShares (s : Bool) (q : Pred) (xs : List Var) : List Form → List Share → Type 0 where
   nothing : AreShares s q xs [] []
   lacks : {f : Form} {fs : List Form} {shares : List Share} → has_free q f ≡ false → AreShares s q xs fs shares
       → AreShares s q xs (f ∷ fs) (share.Ready f ∷ shares)
-  waits : {f : Form} {fs : List Form} {shares : List Share} → has_sign s q f ≡ false → AreShares s q xs fs shares
-      → AreShares s q xs (f ∷ fs) (share.Waits f ∷ shares)
+  waits : {f : Form} {u : Share} {fs : List Form} {shares : List Share} → has_sign s q f ≡ false → WaitsFor f u → AreShares s q xs fs shares
+      → AreShares s q xs (f ∷ fs) (u ∷ shares)
   guards : {f c r : Form} {fs : List Form} {shares : List Share} → has_sign s q f ≡ true → IsGuard s q xs f c r → AreShares s q xs fs shares
       → AreShares s q xs (f ∷ fs) (share.Ready r ∷ shares)
 
@@ -74,4 +79,4 @@ IsDivision s q xs fs (Some d) = IsDivided s q xs fs d
 -- what becomes of a conjunct where this is the value
 abbrev pub share_form : Pred → List Var → Form → Share → Form
 share_form q xs value (share.Ready f) = f
-share_form q xs value (share.Waits f) = pred_sub (depth f) q xs value f
+share_form q xs value (share.Waits f) = pred_sub (depth f.now) q xs value f.now

@@ -4,6 +4,7 @@
 ghost use Rattle.std.specs.Prelude.{◌≡◌, IfOk, cond, true, map, None};
 ghost use Rattle.soqe_norm.specs.Folds.{all_of};
 ghost use Rattle.soqe_norm.specs.Nnf.{nnf as nnf_of};
+ghost use Rattle.soqe_psub.specs.Replaces.{HasMarks};
 ghost use Rattle.soqe_ack.specs.Applied.{IsApplied, AppliedIsAlike, AppliedIsSorted, AppliedLacks};
 ghost use Rattle.soqe_ack.specs.Divides.{share_form};
 ghost use Rattle.soqe_ack.specs.Joins.{and_onto};
@@ -16,7 +17,7 @@ use crate::steps::Sign;
 use soqe_form::{Form, Forms, PVar, Pred};
 use soqe_norm::case_list::Case;
 use soqe_norm::nnf::nnf;
-use soqe_psub::pred_subst;
+use soqe_psub::{Replacement, mark_own, pred_subst_by};
 use soqe_term::{Mem, Nums, Vars};
 use sqlite_items::Boxed;
 use std::alloc::Global;
@@ -35,7 +36,7 @@ pub struct Acked {
 /// the case nor are in `keep`.
 ///
 /// It walks each conjunct once for its parts, and once for its signs where it is no guard; a conjunct without the predicate
-/// is copied, and the value put in only where the predicate stands. The recursion is as deep as the case and the answer.
+/// is copied, and so is one that gets the value, which is put in only where the predicate stands. The recursion is as deep as the case and the answer.
 pub fn apply(alloc: Global, case: &Case, pred: &PVar, sign: Sign, keep: &Nums) -> Mem<Option<Acked>>
     ensures exact { IfOk result (λ r. IsApplied (is_pos sign) pred.now keep.now case.now.vars case.now.conj r) }
     ensures truth { IfOk result (λ r. AppliedIsAlike pred.now case.now.vars case.now.conj r) }
@@ -81,51 +82,49 @@ fn value_by(alloc: Global, condition: Boxed<Form>, sign: Sign) -> Mem<Boxed<Form
 /// What becomes of the conjuncts, by `&`.
 fn joined(
     alloc: Global,
-    shares: Vec<Share>,
+    shares: Vec<Share<'_>>,
     pred: &Pred,
     params: &Vars,
     value: &Boxed<Form>,
 ) -> Mem<Boxed<Form>>
-    ensures { IfOk result (λ r. r ≡ all_of (map (share_form pred.now params.now value.now) shares.items)) }
+    ensures { IfOk result (λ r. r ≡ all_of (map (share_form pred.now params.now value.now) shares.entry.items)) }
 {
-    let made = join_shares(alloc, shares, pred, params, value)?;
+    let body = value.get();
+    let marks = mark_own(alloc, params, body)?;
+    let by = Replacement {
+        pred,
+        params,
+        body,
+        marks,
+    };
+    let made = join_shares(alloc, shares, &by)?;
     made_or(alloc, made, true)
 }
 
 /// The same, none where there is no conjunct.
-fn join_shares(
-    alloc: Global,
-    shares: Vec<Share>,
-    pred: &Pred,
-    params: &Vars,
-    value: &Boxed<Form>,
-) -> Mem<Option<Boxed<Form>>>
-    ensures { IfOk result (λ r. r ≡ and_onto None (map (share_form pred.now params.now value.now) shares.items)) }
+fn join_shares(alloc: Global, shares: Vec<Share<'_>>, by: &Replacement) -> Mem<Option<Boxed<Form>>>
+    requires { HasMarks by.now }
+    ensures { IfOk result (λ r. r ≡ and_onto None (map (share_form by.now.pred.now by.now.params.now by.now.body.now) shares.entry.items)) }
 {
     let mut shares = shares;
     shares.reverse();
     let mut made = None;
     while let Some(share) = shares.pop() {
-        let next = settled(alloc, share, pred, params, value)?;
+        let next = settled(alloc, share, by)?;
         made = Some(and_next(alloc, made, next)?);
     }
     Ok(made)
 }
 
 /// What becomes of a conjunct.
-fn settled(
-    alloc: Global,
-    share: Share,
-    pred: &Pred,
-    params: &Vars,
-    value: &Boxed<Form>,
-) -> Mem<Boxed<Form>>
-    ensures { IfOk result (λ r. r ≡ share_form pred.now params.now value.now share) }
+fn settled(alloc: Global, share: Share<'_>, by: &Replacement) -> Mem<Boxed<Form>>
+    requires { HasMarks by.now }
+    ensures { IfOk result (λ r. r ≡ share_form by.now.pred.now by.now.params.now by.now.body.now share.entry) }
 {
     match share {
         Share::Ready(form) => Ok(form),
         Share::Waits(form) => {
-            let form = pred_subst(alloc, form.get(), pred, params, value.get())?;
+            let form = pred_subst_by(alloc, form, by)?;
             Ok(form)
         }
     }

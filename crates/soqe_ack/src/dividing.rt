@@ -18,35 +18,35 @@ use std::alloc::Global;
 /// What a conjunct is to a try: a guard with the predicate, one without the predicate, one that gets the value, or one that
 /// has the sign and is no guard.
 #[derive(Drop)]
-pub enum Role {
+pub enum Role<'a> {
     Guard(Parts),
     Lacks(Boxed<Form>),
-    Waits(Boxed<Form>),
+    Waits(&'a Form),
     InWay,
 }
 
 /// What becomes of a conjunct: this formula, or this formula with the value for the predicate.
 #[derive(Drop)]
-pub enum Share {
+pub enum Share<'a> {
     Ready(Boxed<Form>),
-    Waits(Boxed<Form>),
+    Waits(&'a Form),
 }
 
 /// The conditions of the guards by `|`, none where there are no guards, and what becomes of each conjunct.
 #[derive(Drop)]
-pub struct Divided {
+pub struct Divided<'a> {
     pub condition: Option<Boxed<Form>>,
-    pub shares: Vec<Share>,
+    pub shares: Vec<Share<'a>>,
 }
 
-/// The conjuncts divided, or none where one has the sign and is no guard.
-pub(crate) fn divide(
+/// The conjuncts divided, or none where one has the sign and is no guard. A conjunct that gets the value is not copied.
+pub(crate) fn divide<'a>(
     alloc: Global,
-    conj: &[Boxed<Form>],
+    conj: &'a [Boxed<Form>],
     pred: &Pred,
     sign: Sign,
     params: &Vars,
-) -> Mem<Option<Divided>>
+) -> Mem<Option<Divided<'a>>>
     ensures { IfOk result (λ r. IsDivision (is_pos sign) pred.now params.now conj.now r) }
 {
     let mut divided = Divided {
@@ -64,7 +64,13 @@ pub(crate) fn divide(
 }
 
 /// What the conjunct is to the try.
-fn role_of(alloc: Global, form: &Boxed<Form>, pred: &Pred, sign: Sign, params: &Vars) -> Mem<Role>
+fn role_of<'a>(
+    alloc: Global,
+    form: &'a Boxed<Form>,
+    pred: &Pred,
+    sign: Sign,
+    params: &Vars,
+) -> Mem<Role<'a>>
     ensures { IfOk result (λ r. IsRole (is_pos sign) pred.now params.now form.now r) }
 {
     match find(alloc, form.get(), pred, sign, params)? {
@@ -77,8 +83,7 @@ fn role_of(alloc: Global, form: &Boxed<Form>, pred: &Pred, sign: Sign, params: &
             if has_sign(form.get(), pred, sign) {
                 return Ok(Role::InWay);
             }
-            let form = copy_boxed(alloc, form)?;
-            Ok(Role::Waits(form))
+            Ok(Role::Waits(form.get()))
         }
     }
 }
@@ -94,7 +99,7 @@ fn has_sign(form: &Form, pred: &Pred, sign: Sign) -> bool
     }
 }
 
-fn stands_in_way(role: &Role) -> bool
+fn stands_in_way(role: &Role<'_>) -> bool
     ensures { result ≡ is_in_way role.now }
 {
     match role {
@@ -106,8 +111,8 @@ fn stands_in_way(role: &Role) -> bool
 }
 
 /// One more conjunct.
-fn take(alloc: Global, divided: Divided, role: Role) -> Mem<Divided>
-    ensures { IfOk result (λ r. Takes divided role r) }
+fn take<'a>(alloc: Global, divided: Divided<'a>, role: Role<'a>) -> Mem<Divided<'a>>
+    ensures { IfOk result (λ r. Takes divided.entry role.entry r) }
 {
     let Divided { condition, shares } = divided;
     let mut shares = shares;

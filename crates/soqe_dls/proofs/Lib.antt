@@ -4,3 +4,4 @@ mod Running
 mod RunTruth
 pub mod RunUnique
 mod RunLost
+pub mod RunBlocks

@@ -82,7 +82,7 @@ below-sorted e p f = refl
 
 -- ---- one case
 
-acked-of : {p : PVar} {keep : List ℕ} {vars : List Var} {fs : List Form} {s : Bool} {params : List Var} {value form : Form}
+pub acked-of : {p : PVar} {keep : List ℕ} {vars : List Var} {fs : List Form} {s : Bool} {params : List Var} {value form : Form}
     → IsTried p keep vars fs s params value form → IsAcked s p keep vars fs params value form
 acked-of (positive a) = a
 acked-of (negative _ a) = a

@@ -1,7 +1,6 @@
 -- The steps that are written so far lead to a run of all cases with whatever steps follow from the next case on.
-use Rattle.std.proofs.Common.{◌≡◌, ℕ, zero, suc, ◌<◌, ◌≤◌, Bool, List, [], ◌∷◌, ◌++◌, length, drop, get_or, Option, Some, None, refl, sym, ◌∙◌, ap, subst, append_assoc, arith}
-use Rattle.std.proofs.Math.Numerals.{add-one}
-use Rattle.std.proofs.lemmas.List.{append-nil, drop_more}
+use Rattle.std.proofs.Common.{◌≡◌, ℕ, suc, Bool, List, [], ◌∷◌, ◌++◌, length, reverse, Option, Some, None, refl, sym, ◌∙◌, ap, subst, append_assoc, arith}
+use Rattle.std.proofs.lemmas.List.{append-nil}
 use Rattle.soqe_term.specs.declared.term.Var.{Var}
 use Rattle.soqe_form.specs.declared.form.PVar.{PVar}
 use Rattle.soqe_form.specs.declared.form.Form.{Form}
@@ -35,15 +34,20 @@ after_all-not : (fs : List Form) (n : ℕ) → after_all fs (NotReached n) ≡ N
 after_all-not [] n = refl
 after_all-not (f ∷ fs) n = ap (after f) (after_all-not fs n)
 
--- the first cases have these formulas, which are joined so far
-pub record Leads (keep : List ℕ) (p : PVar) (cs : List Case) (place number : ℕ) (steps : List DlsStep) (so_far : Option Form) : Type 0 where
+-- the cases in front of those that are left have these formulas, which are joined so far
+pub record Leads (keep : List ℕ) (p : PVar) (cs left : List Case) (number : ℕ) (steps : List DlsStep) (so_far : Option Form) : Type 0 where
   pub forms : List Form
-  pub leads : (more : List DlsStep) (o : Outcome) → IsRun keep p place (drop place cs) more o → IsRun keep p 0 cs (steps ++ more) (after_all forms o)
+  pub leads : (more : List DlsStep) (o : Outcome) → IsRun keep p number left more o → IsRun keep p 0 cs (steps ++ more) (after_all forms o)
   pub joins : so_far ≡ joined_of forms
-  pub counted : number ≡ place
 
-pub leads-none : (keep : List ℕ) (p : PVar) (cs : List Case) → Leads keep p cs 0 0 [] None
-leads-none keep p cs = record { forms = []; leads = λ more o r. r; joins = refl; counted = refl }
+pub leads-none : (keep : List ℕ) (p : PVar) (cs left : List Case) (number : ℕ) (steps : List DlsStep) → left ≡ cs → number ≡ 0 → steps ≡ [] → Leads keep p cs left number steps None
+leads-none keep p cs left number steps l n s = record {
+  forms = [];
+  leads = λ more o r.
+      subst (λ (ss : List DlsStep). IsRun keep p 0 cs (ss ++ more) o) (sym s)
+      (subst (λ (m : ℕ). IsRun keep p m cs more o) n (subst (λ (ds : List Case). IsRun keep p number ds more o) l r));
+  joins = refl;
+}
 
 joined-push : (fs : List Form) (f : Form) → Some (joined (joined_of fs) f) ≡ joined_of (fs ++ f ∷ [])
 joined-push [] f = refl
@@ -53,59 +57,53 @@ joined-any : (fs : List Form) → joined_or_false (joined_of fs) ≡ any_of fs
 joined-any [] = refl
 joined-any (f ∷ fs) = refl
 
-past : {A : Type 0} (xs : List A) (n : ℕ) → length xs ≤ n → drop n xs ≡ []
-past [] zero l = refl
-past [] (suc n) l = refl
-past (x ∷ xs) zero l = absurd (omega (arith, l))
-past (x ∷ xs) (suc n) l = let m : length xs ≤ n = omega (arith, l) in past xs n m
+pub none-left : {A : Type 0} (xs : List A) → length xs ≡ 0 → reverse xs ≡ []
+none-left [] h = refl
+none-left (x ∷ xs) h = absurd (omega (arith, h))
 
 run-as : (keep : List ℕ) (p : PVar) (n : ℕ) (cs : List Case) (a b : List DlsStep) (o u : Outcome) → a ≡ b → o ≡ u → IsRun keep p n cs a o → IsRun keep p n cs b u
 run-as keep p n cs a b o u e h r = subst (λ (s : List DlsStep). IsRun keep p n cs s u) e (subst (λ (x : Outcome). IsRun keep p n cs a x) h r)
 
-module _ (keep : List ℕ) (p : PVar) (cs : List Case) (place number : ℕ) (old : List DlsStep) (so_far : Option Form) (lead : Leads keep p cs place number old so_far) where
-  pub leads-done : length cs ≤ place → IsDone keep p cs old (joined_or_false so_far)
+module _ (keep : List ℕ) (p : PVar) (cs left : List Case) (number : ℕ) (old : List DlsStep) (so_far : Option Form) (lead : Leads keep p cs left number old so_far) where
+  pub leads-done : left ≡ [] → IsDone keep p cs old (joined_or_false so_far)
   leads-done l =
-      let rest : IsRun keep p place (drop place cs) [] (Reached []) = subst (λ (ds : List Case). IsRun keep p place ds [] (Reached [])) (sym (past cs place l)) no_more in
+      let rest : IsRun keep p number left [] (Reached []) = subst (λ (ds : List Case). IsRun keep p number ds [] (Reached [])) (sym l) no_more in
       record {
         forms = lead.forms;
         run = run-as keep p 0 cs (old ++ []) old (after_all lead.forms (Reached [])) (Reached lead.forms) (append-nil old) (after_all-reached lead.forms) (lead.leads [] (Reached []) rest);
         is = ap joined_or_false lead.joins ∙ joined-any lead.forms;
       }
 
-  module _ (c : Case) (new : List DlsStep) (within : place < length cs) (at : c ≡ get_or cs place c) (num : ℕ) (num_is : num ≡ suc place) where
-    here : c ∷ drop (suc place) cs ≡ drop place cs
-    here = (λ i. at i ∷ drop (suc place) cs) ∙ sym (simp add-one at (drop_more cs place c within))
-
-    pub leads-reached : (next : ℕ) → next ≡ suc place → (form : Form) → WritesReached keep p num c old new form → Leads keep p cs next num new (Some (joined so_far form))
-    leads-reached next next_is form w = record {
+  module _ (c : Case) (rest : List Case) (at : left ≡ c ∷ rest) (new : List DlsStep) (num : ℕ) (num_is : num ≡ suc number) where
+    pub leads-reached : (form : Form) → WritesReached keep p num c old new form → Leads keep p cs rest num new (Some (joined so_far form))
+    leads-reached form w = record {
       forms = lead.forms ++ form ∷ [];
       leads = λ more o r.
           let f : Form = case_form w.vars w.conj in
           let ack : DlsStep = step.Ack w.sign (Bound p.num) w.new_params w.new_value in
           let g : Form = tidy keep w.result in
-          let rest : IsRun keep p (suc place) (drop (suc place) cs) more o = subst (λ (n : ℕ). IsRun keep p n (drop n cs) more o) next_is r in
-          let run : IsRun keep p place (c ∷ drop (suc place) cs) (step.Case (suc place) f ∷ ack ∷ step.Gives g ∷ more) (after g o) = reached w.sign w.tidied w.tried w.shown rest in
-          let from : IsRun keep p place (drop place cs) (step.Case (suc place) f ∷ ack ∷ step.Gives g ∷ more) (after g o) =
-          subst (λ (ds : List Case). IsRun keep p place ds (step.Case (suc place) f ∷ ack ∷ step.Gives g ∷ more) (after g o)) here run in
-          run-as keep p 0 cs (old ++ step.Case (suc place) f ∷ ack ∷ step.Gives g ∷ more) (new ++ more) (after_all lead.forms (after g o)) (after_all (lead.forms ++ form ∷ []) o)
+          let behind : IsRun keep p (suc number) rest more o = subst (λ (n : ℕ). IsRun keep p n rest more o) num_is r in
+          let run : IsRun keep p number (c ∷ rest) (step.Case (suc number) f ∷ ack ∷ step.Gives g ∷ more) (after g o) = reached w.sign w.tidied w.tried w.shown behind in
+          let from : IsRun keep p number left (step.Case (suc number) f ∷ ack ∷ step.Gives g ∷ more) (after g o) =
+          subst (λ (ds : List Case). IsRun keep p number ds (step.Case (suc number) f ∷ ack ∷ step.Gives g ∷ more) (after g o)) (sym at) run in
+          run-as keep p 0 cs (old ++ step.Case (suc number) f ∷ ack ∷ step.Gives g ∷ more) (new ++ more) (after_all lead.forms (after g o)) (after_all (lead.forms ++ form ∷ []) o)
           ((λ i. old ++ step.Case (sym num_is i) f ∷ ack ∷ step.Gives (sym w.is i) ∷ more) ∙ sym (append_assoc old (step.Case num f ∷ ack ∷ step.Gives form ∷ []) more)
           ∙ ap (λ l. l ++ more) (sym w.steps))
           (ap (λ h. after_all lead.forms (after h o)) (sym w.is) ∙ sym (after_all-push lead.forms form o))
-          (lead.leads (step.Case (suc place) f ∷ ack ∷ step.Gives g ∷ more) (after g o) from);
+          (lead.leads (step.Case (suc number) f ∷ ack ∷ step.Gives g ∷ more) (after g o) from);
       joins = ap (λ o. Some (joined o form)) lead.joins ∙ joined-push lead.forms form;
-      counted = num_is ∙ sym next_is;
     }
 
     pub leads-lost : WritesLost keep p num c old new → IsRun keep p 0 cs new (NotReached num)
     leads-lost w =
         let f : Form = case_form w.vars w.conj in
-        let run : IsRun keep p place (c ∷ drop (suc place) cs) (step.Case (suc place) f ∷ []) (NotReached (suc place)) = stops w.tidied w.lost in
-        let from : IsRun keep p place (drop place cs) (step.Case (suc place) f ∷ []) (NotReached (suc place)) =
-        subst (λ (ds : List Case). IsRun keep p place ds (step.Case (suc place) f ∷ []) (NotReached (suc place))) here run in
-        run-as keep p 0 cs (old ++ step.Case (suc place) f ∷ []) new (after_all lead.forms (NotReached (suc place))) (NotReached num)
+        let run : IsRun keep p number (c ∷ rest) (step.Case (suc number) f ∷ []) (NotReached (suc number)) = stops w.tidied w.lost in
+        let from : IsRun keep p number left (step.Case (suc number) f ∷ []) (NotReached (suc number)) =
+        subst (λ (ds : List Case). IsRun keep p number ds (step.Case (suc number) f ∷ []) (NotReached (suc number))) (sym at) run in
+        run-as keep p 0 cs (old ++ step.Case (suc number) f ∷ []) new (after_all lead.forms (NotReached (suc number))) (NotReached num)
         ((λ i. old ++ step.Case (sym num_is i) f ∷ []) ∙ sym w.steps)
-        (after_all-not lead.forms (suc place) ∙ ap NotReached (sym num_is))
-        (lead.leads (step.Case (suc place) f ∷ []) (NotReached (suc place)) from)
+        (after_all-not lead.forms (suc number) ∙ ap NotReached (sym num_is))
+        (lead.leads (step.Case (suc number) f ∷ []) (NotReached (suc number)) from)
 
 -- the parameters of a try are distinct
 pub tried-distinct : {p : PVar} {keep : List ℕ} {vars : List Var} {fs : List Form} {s : Bool} {params : List Var} {value form : Form}

@@ -1,5 +1,5 @@
 -- What holds of the answers by cases.
-use Rattle.std.specs.Prelude.{ℕ, suc, ◌≡◌, ◌↔◌, true, List, ◌∷◌, ◌++◌, length}
+use Rattle.std.specs.Prelude.{ℕ, suc, ◌≡◌, ◌↔◌, true, false, List, ◌∷◌, ◌++◌, length}
 use Rattle.std.specs.List.{All}
 use Rattle.soqe_term.specs.declared.term.Var.{Var}
 use Rattle.soqe_term.specs.Sorting.{Sorting}
@@ -7,9 +7,11 @@ use Rattle.soqe_form.specs.declared.form.Pred.TheVariants.{Bound}
 use Rattle.soqe_form.specs.declared.form.PVar.{PVar}
 use Rattle.soqe_form.specs.declared.form.Form.{Form, Ex2}
 use Rattle.soqe_form.specs.Alike.{AlikeIn}
+use Rattle.soqe_form.specs.Places.{has_blocks}
 use Rattle.soqe_form.specs.Sorted.{sorted}
 use Rattle.soqe_norm.specs.declared.case_list.Case.{Case}
 use Rattle.soqe_norm.specs.CasesLaws.{AreCases}
+use Rattle.soqe_ack.specs.declared.steps.DlsStep.{DlsStep}
 use Rattle.soqe_ack.specs.Tries.{IsTidyCase, IsNotReached}
 use Rattle.soqe_dls.specs.declared.elimination.DlsEnd.{DlsEnd}
 use Rattle.soqe_dls.specs.declared.elimination.DlsEnd.TheVariants as end
@@ -28,6 +30,10 @@ EndsTrue p f (end.NotReached steps n) = Unit {0}
 -- every answer does so
 abbrev pub DoneHasTruth : Type 0
 DoneHasTruth = (keep : List ℕ) (p : PVar) (f : Form) (r : DlsEnd) → IsAnswer keep p f r → EndsTrue p f r
+
+-- where no predicate is quantified in the normal form, none is in the formula of an answer
+abbrev pub DoneHasNoBlocks : Type 0
+DoneHasNoBlocks = (keep : List ℕ) (p : PVar) (f form : Form) (steps : List DlsStep) → IsAnswer keep p f (end.Done steps form) → has_blocks f ≡ false → has_blocks form ≡ false
 
 -- a block has one answer
 abbrev pub OneAnswer : Type 0

@@ -12,7 +12,7 @@ use crate::steps::DlsSteps;
 use crate::tidy_case::tidy_case;
 use soqe_ack::{DlsStep, Tried, first_try};
 use soqe_form::{Form, PVar, Pred, copy_boxed, tidy};
-use soqe_norm::case_list::Case;
+use soqe_norm::case_list::{Case, CaseList};
 use soqe_norm::cases::cases;
 use soqe_term::{Mem, Nums};
 use sqlite_items::Boxed;
@@ -36,18 +36,20 @@ pub fn dls(alloc: Global, form: &Form, pred: &PVar, keep: &Nums) -> Mem<DlsEnd>
     ensures truth { IfOk result (λ end. EndsTrue pred.now form.now end) }
 {
     let cases = cases(alloc, form, &Pred::Bound(pred.num), keep)?;
-    run(alloc, cases.as_slice(), pred, keep)
+    run(alloc, cases, pred, keep)
 }
 
-/// The steps of the cases, and how they end.
-fn run(alloc: Global, cases: &[Case], pred: &PVar, keep: &Nums) -> Mem<DlsEnd>
-    ensures { IfOk result (λ end. EndsRun keep.now pred.now cases.now end) }
+/// The steps of the cases, and how they end. Each case is moved, and gone once its tidy form is made.
+fn run(alloc: Global, cases: CaseList, pred: &PVar, keep: &Nums) -> Mem<DlsEnd>
+    ensures { IfOk result (λ end. EndsRun keep.now pred.now cases end) }
 {
     let mut steps = DlsSteps::new(alloc);
     let mut so_far = None;
-    let mut number = 0;
-    for case in cases {
-        number += 1;
+    let mut left = cases.into_vec();
+    let count = left.len();
+    left.reverse();
+    while let Some(case) = left.pop() {
+        let number = (count - left.len()) as u64;
         match write_case(alloc, &mut steps, number, case, pred, keep)? {
             Some(form) => so_far = Some(join(alloc, so_far, form)?),
             None => {
@@ -78,11 +80,11 @@ fn write_case(
     alloc: Global,
     steps: &mut DlsSteps,
     num: u64,
-    case: &Case,
+    case: Case,
     pred: &PVar,
     keep: &Nums,
 ) -> Mem<Option<Boxed<Form>>>
-    ensures { IfOk result (λ form. WritesCase keep.now pred.now num case.now steps.old steps.new form) }
+    ensures { IfOk result (λ form. WritesCase keep.now pred.now num case steps.old steps.new form) }
 {
     let tidied = tidy_case(alloc, case, keep)?;
     steps.push(DlsStep::Case {

@@ -21,11 +21,11 @@ pub(crate) struct TidyCase {
 
 /// The case whose formula is tidy, and that formula. It takes the time and memory of two copies of the case and of `tidy`, and
 /// recurses as deep as its formula.
-pub(crate) fn tidy_case(alloc: Global, case: &Case, keep: &Nums) -> Mem<TidyCase>
-    ensures tidied { IfOk result (λ r. IsTidyCase keep.now case.now.vars case.now.conj r.case.vars r.case.conj) }
+pub(crate) fn tidy_case(alloc: Global, case: Case, keep: &Nums) -> Mem<TidyCase>
+    ensures tidied { IfOk result (λ r. IsTidyCase keep.now case.vars case.conj r.case.vars r.case.conj) }
     ensures form { IfOk result (λ r. r.form ≡ form_of r.case.vars r.case.conj) }
 {
-    let form = case_form(alloc, case)?;
+    let form = case_form(alloc, &case)?;
     let form = tidy(alloc, form.get(), keep)?;
     let copy = copy_boxed(alloc, &form)?;
     let case = take_case(alloc, copy, case.vars.as_slice().len(), case.conj.len())?;

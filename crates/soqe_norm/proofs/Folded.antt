@@ -1,14 +1,17 @@
 -- What folds by `&` and by `|` come to.
 use Rattle.std.proofs.Common.{◌≡◌, Bool, true, false, ◌||◌, ◌&&◌, List, [], ◌∷◌, refl, ◌∙◌, ap}
+use Rattle.std.specs.List.{list_any}
+use Rattle.soqe_term.specs.declared.term.Var.{Var}
 use Rattle.soqe_term.specs.World.{World}
 use Rattle.soqe_term.specs.Sorting.{Sorting}
 use Rattle.soqe_form.specs.declared.form.Pred.{Pred}
 use Rattle.soqe_form.specs.declared.form.Form.{Form, And, Or}
 use Rattle.soqe_form.specs.Boxes.{boxes}
 use Rattle.soqe_form.specs.FreePreds.{has_free}
+use Rattle.soqe_form.specs.Places.{has_blocks}
 use Rattle.soqe_form.specs.Sorted.{sorted}
 use Rattle.soqe_form.specs.Truth.{truth}
-use Rattle.soqe_norm.specs.Folds.{or_after, any_of, and_after, all_of}
+use Rattle.soqe_norm.specs.Folds.{or_after, any_of, and_after, all_of, exists_in, case_form}
 
 -- some formula passes the test
 abbrev pub any_passes : (Form → Bool) → List Form → Bool
@@ -81,3 +84,25 @@ pub has_free-all : (q : Pred) (fs : List Form) → has_free q (all_of fs) ≡ an
 unfolding boxes
 has_free-all q [] = refl
 has_free-all q (f ∷ fs) = any-and (has_free q) (λ f g. refl) f fs
+
+pub any-listed : (h : Form → Bool) (fs : List Form) → any_passes h fs ≡ list_any h fs
+any-listed h [] = refl
+any-listed h (f ∷ fs) = ap (λ b. h f || b) (any-listed h fs)
+
+pub has_blocks-any : (fs : List Form) → has_blocks (any_of fs) ≡ list_any has_blocks fs
+unfolding boxes
+has_blocks-any [] = refl
+has_blocks-any (f ∷ fs) = any-or has_blocks (λ f g. refl) f fs ∙ any-listed has_blocks (f ∷ fs)
+
+pub has_blocks-all : (fs : List Form) → has_blocks (all_of fs) ≡ list_any has_blocks fs
+unfolding boxes
+has_blocks-all [] = refl
+has_blocks-all (f ∷ fs) = any-and has_blocks (λ f g. refl) f fs ∙ any-listed has_blocks (f ∷ fs)
+
+pub has_blocks-exists : (vars : List Var) (f : Form) → has_blocks (exists_in vars f) ≡ has_blocks f
+unfolding boxes
+has_blocks-exists [] f = refl
+has_blocks-exists (x ∷ vars) f = has_blocks-exists vars f
+
+pub has_blocks-case : (vars : List Var) (fs : List Form) → has_blocks (case_form vars fs) ≡ list_any has_blocks fs
+has_blocks-case vars fs = has_blocks-exists vars (all_of fs) ∙ has_blocks-all fs

@@ -4,7 +4,6 @@ pub mod Risen
 pub mod Replaced
 pub mod SortedValues
 pub mod Blocks
-pub mod Counts
 pub mod Nnfs
 pub mod Renumbered
 pub mod Aparts
@@ -18,3 +17,4 @@ pub mod CaseNames
 pub mod CaseTruth
 pub mod CaseSorts
 pub mod CaseSplits
+pub mod Counts

@@ -73,6 +73,13 @@ impl CaseList {
         self.items.as_slice()
     }
 
+    /// The cases themselves. It takes no memory.
+    pub fn into_vec(self) -> Vec<Case>
+        ensures { result.items ≡ self }
+    {
+        self.items
+    }
+
     /// Adds a case at the end. After want of memory nothing has changed.
     pub fn push(&mut self, case: Case) -> Mem<()>
         ensures ok { OnOk result (self.new ≡ self.old ++ case ∷ []) }

@@ -10,7 +10,7 @@ ghost use Rattle.soqe_norm.specs.CasesLaws.{AreCases};
 
 use crate::apart::apart;
 use crate::case_list::{Case, CaseList};
-use crate::splits::{Split, find_split, spread};
+use crate::splits::{Part, Split, find_split, spread};
 use soqe_form::{Form, Forms, Pred};
 use soqe_term::{Mem, Nums, Vars};
 use sqlite_items::Boxed;
@@ -18,33 +18,31 @@ use std::alloc::Global;
 
 /// The cases of the formula for the predicate, once its bound variables are made distinct and none has a number of `keep`:
 /// some case holds exactly where the formula does. It walks over the formula from below, by recursion, and a formula is
-/// copied once for each case that it stands in; the number of cases can be exponential in the size of the formula.
+/// moved into one of the cases that it stands in, and copied for each other one; the number of cases can be exponential in the
+/// size of the formula.
 pub fn cases(alloc: Global, form: &Form, pred: &Pred, keep: &Nums) -> Mem<CaseList>
     ensures exact { IfOk result (λ cs. AreCases keep.now pred.now form.now cs) }
     ensures truth { IfOk result (λ cs. (e : Sorting) → AlikeIn e (some_case cs) form.now) }
 {
     let distinct = apart(alloc, form, keep)?;
-    let items = cases_there(alloc, distinct.get(), pred)?;
+    let items = cases_there(alloc, distinct, pred)?;
     Ok(CaseList::of(items))
 }
 
 /// The cases of a formula with distinct bound variables.
-fn cases_there(alloc: Global, form: &Form, pred: &Pred) -> Mem<Vec<Case>>
-    ensures { IfOk result (λ r. r.items ≡ cases_of pred.now form.now) }
+fn cases_there(alloc: Global, form: Boxed<Form>, pred: &Pred) -> Mem<Vec<Case>>
+    ensures { IfOk result (λ r. r.items ≡ cases_of pred.now form) }
 {
-    let split = find_split(alloc, form, pred)?;
-    match split {
-        Some(split) => cases_of_split(alloc, split.get()),
-        None => one_case(alloc, form),
+    match find_split(alloc, form, pred)? {
+        Part::Splits(split) => cases_of_split(alloc, split),
+        Part::Lacks(form) => one_case(alloc, form),
     }
 }
 
 /// The one case of a formula that is not split.
-fn one_case(alloc: Global, form: &Form) -> Mem<Vec<Case>>
-    ensures { IfOk result (λ r. r.items ≡ whole_of form.now) }
+fn one_case(alloc: Global, form: Boxed<Form>) -> Mem<Vec<Case>>
+    ensures { IfOk result (λ r. r.items ≡ whole_of form) }
 {
-    let form = form.copy(alloc)?;
-    let form = Boxed::new(alloc, form)?;
     let mut conj = Forms::new(alloc);
     conj.push(form)?;
     let mut items = Vec::new(alloc);
@@ -56,8 +54,8 @@ fn one_case(alloc: Global, form: &Form) -> Mem<Vec<Case>>
 }
 
 /// The cases of a split.
-fn cases_of_split(alloc: Global, split: &Split<'_>) -> Mem<Vec<Case>>
-    ensures { IfOk result (λ r. r.items ≡ cases_in split.now) }
+fn cases_of_split(alloc: Global, split: Boxed<Split>) -> Mem<Vec<Case>>
+    ensures { IfOk result (λ r. r.items ≡ cases_in split) }
 {
     let mut items = Vec::new(alloc);
     let empty = Case {

@@ -1,13 +1,14 @@
 //! How a formula falls into cases for a predicate, found in one pass from below, and the cases themselves.
 #![tactic(auto, unfolding(soqe_form::specs::Boxes::boxes, crate::specs::SplitBoxes::split_boxes))]
 
-ghost use Rattle.std.specs.Prelude.{◌≡◌, ◌++◌, ◌∷◌, [], IfOk, OnOk, Some, map};
-ghost use Rattle.soqe_form.specs.declared.form.Form.{Form};
+ghost use Rattle.std.specs.Prelude.{◌≡◌, ◌++◌, ◌∷◌, [], IfOk, OnOk, map};
+ghost use Rattle.soqe_form.specs.declared.form.Form.{Form, And, Or};
 ghost use Rattle.soqe_norm.specs.Cases.{both as joined, whole as whole_of, pairings};
-ghost use Rattle.soqe_norm.specs.Splits.{split_cases, undivided as undivided_of, or_whole, in_two, below_it, cases_in, cases_found};
+ghost use Rattle.soqe_norm.specs.Splits.{Falls, split_cases, undivided as undivided_of, in_two, below_it, cases_in, cases_seen, seen};
 
 use crate::case_list::Case;
-use soqe_form::{Form, Pred, has_free_pred};
+use soqe_form::make::{conjunction, disjunction, exists};
+use soqe_form::{Form, Pred, copy_boxed, has_free_pred};
 use soqe_term::{Mem, Var};
 use sqlite_items::Boxed;
 use std::alloc::Global;
@@ -15,162 +16,234 @@ use std::alloc::Global;
 /// How a formula falls into cases: it is not split, two parts hold together, one of two parts holds, or a part holds
 /// below an existential variable.
 #[derive(Drop)]
-pub enum Split<'a> {
-    Whole(&'a Form),
-    Both(Boxed<Split<'a>>, Boxed<Split<'a>>),
-    Either(Boxed<Split<'a>>, Boxed<Split<'a>>),
-    Below(Var, Boxed<Split<'a>>),
+pub enum Split {
+    Whole(Boxed<Form>),
+    Both(Boxed<Split>, Boxed<Split>),
+    Either(Boxed<Split>, Boxed<Split>),
+    Below(Var, Boxed<Split>),
 }
 
-/// How the formula splits, or none where the predicate is not free in it. It looks at each node once and copies none.
-pub fn find_split<'a>(alloc: Global, form: &'a Form, pred: &Pred) -> Mem<Option<Boxed<Split<'a>>>>
-    ensures { IfOk result (λ r. cases_found r ≡ split_cases pred.now form.now) }
+/// What was found of a formula: the predicate is not free in it, or it splits.
+#[derive(Drop)]
+pub enum Part {
+    Lacks(Boxed<Form>),
+    Splits(Boxed<Split>),
+}
+
+/// How the formula splits, or that the predicate is not free in it. It takes the formula apart and copies none of it.
+pub fn find_split(alloc: Global, form: Boxed<Form>, pred: &Pred) -> Mem<Part>
+    ensures { IfOk result (λ r. seen r ≡ split_cases pred.now form) }
 {
-    match form {
-        Form::True => Ok(None),
-        Form::False => Ok(None),
-        Form::Equal(_, _) => Ok(None),
-        Form::Atom(_, _) => undivided(alloc, form, pred),
-        Form::Not(_) => undivided(alloc, form, pred),
+    match form.into_inner() {
         Form::And(f, g) => {
-            let left = find_split(alloc, f.get(), pred)?;
-            let right = find_split(alloc, g.get(), pred)?;
-            together(alloc, f, left, g, right)
+            let left = find_split(alloc, f, pred)?;
+            let right = find_split(alloc, g, pred)?;
+            together(alloc, left, right)
         }
         Form::Or(f, g) => {
-            let left = find_split(alloc, f.get(), pred)?;
-            let right = find_split(alloc, g.get(), pred)?;
-            either(alloc, f, left, g, right)
+            let left = find_split(alloc, f, pred)?;
+            let right = find_split(alloc, g, pred)?;
+            alternatives(alloc, left, right)
         }
-        Form::Imp(_, _) => undivided(alloc, form, pred),
-        Form::Iff(_, _) => undivided(alloc, form, pred),
-        Form::All(_, _) => undivided(alloc, form, pred),
         Form::Ex(x, f) => {
-            let part = find_split(alloc, f.get(), pred)?;
-            below(alloc, *x, part)
+            let part = find_split(alloc, f, pred)?;
+            below(alloc, x, part)
         }
-        Form::All2(_, _) => undivided(alloc, form, pred),
-        Form::Ex2(_, _) => undivided(alloc, form, pred),
+        other => undivided(alloc, other, pred),
     }
 }
 
 /// A formula that is not split.
-fn undivided<'a>(alloc: Global, form: &'a Form, pred: &Pred) -> Mem<Option<Boxed<Split<'a>>>>
-    ensures { IfOk result (λ r. cases_found r ≡ undivided_of pred.now form.now) }
+fn undivided(alloc: Global, form: Form, pred: &Pred) -> Mem<Part>
+    ensures { IfOk result (λ r. seen r ≡ undivided_of pred.now form) }
 {
-    if has_free_pred(form, pred) {
+    let splits = has_free_pred(&form, pred);
+    let form = Boxed::new(alloc, form)?;
+    if splits {
         let split = whole(alloc, form)?;
-        Ok(Some(split))
+        Ok(Part::Splits(split))
     } else {
-        Ok(None)
+        Ok(Part::Lacks(form))
     }
 }
 
-fn whole<'a>(alloc: Global, form: &'a Form) -> Mem<Boxed<Split<'a>>>
-    ensures { IfOk result (λ r. cases_in r ≡ whole_of form.now) }
+fn whole(alloc: Global, form: Boxed<Form>) -> Mem<Boxed<Split>>
+    ensures { IfOk result (λ r. cases_in r ≡ whole_of form) }
 {
     Boxed::new(alloc, Split::Whole(form))
 }
 
 /// The split of a part, the part being whole where the predicate is not in it.
-fn part_of<'a>(
-    alloc: Global,
-    form: &'a Boxed<Form>,
-    split: Option<Boxed<Split<'a>>>,
-) -> Mem<Boxed<Split<'a>>>
-    ensures { IfOk result (λ r. cases_in r ≡ or_whole form.now (cases_found split.entry)) }
+fn split_of(alloc: Global, part: Part) -> Mem<Boxed<Split>>
+    ensures { IfOk result (λ r. cases_in r ≡ cases_seen (seen part)) }
 {
-    match split {
-        Some(split) => Ok(split),
-        None => whole(alloc, form.get()),
+    match part {
+        Part::Lacks(form) => whole(alloc, form),
+        Part::Splits(split) => Ok(split),
     }
 }
 
 /// Two parts that hold together.
-fn together<'a>(
-    alloc: Global,
-    f: &'a Boxed<Form>,
-    left: Option<Boxed<Split<'a>>>,
-    g: &'a Boxed<Form>,
-    right: Option<Boxed<Split<'a>>>,
-) -> Mem<Option<Boxed<Split<'a>>>>
-    ensures { IfOk result (λ r. cases_found r ≡ in_two pairings f.now (cases_found left.entry) g.now (cases_found right.entry)) }
+fn together(alloc: Global, left: Part, right: Part) -> Mem<Part>
+    ensures { IfOk result (λ r. seen r ≡ in_two And pairings (seen left) (seen right)) }
 {
-    if left.is_none() && right.is_none() {
-        return Ok(None);
+    match left {
+        Part::Lacks(f) => match right {
+            Part::Lacks(g) => {
+                let form = conjunction(alloc, f, g)?;
+                Ok(Part::Lacks(form))
+            }
+            Part::Splits(right) => {
+                let left = whole(alloc, f)?;
+                both(alloc, left, right)
+            }
+        },
+        Part::Splits(left) => {
+            let right = split_of(alloc, right)?;
+            both(alloc, left, right)
+        }
     }
-    let left = part_of(alloc, f, left)?;
-    let right = part_of(alloc, g, right)?;
+}
+
+/// The same where one of them has the predicate.
+fn both(alloc: Global, left: Boxed<Split>, right: Boxed<Split>) -> Mem<Part>
+    ensures { IfOk result (λ r. seen r ≡ Falls (pairings (cases_in left) (cases_in right))) }
+{
     let split = Boxed::new(alloc, Split::Both(left, right))?;
-    Ok(Some(split))
+    Ok(Part::Splits(split))
 }
 
 /// Two parts of which one holds.
-fn either<'a>(
-    alloc: Global,
-    f: &'a Boxed<Form>,
-    left: Option<Boxed<Split<'a>>>,
-    g: &'a Boxed<Form>,
-    right: Option<Boxed<Split<'a>>>,
-) -> Mem<Option<Boxed<Split<'a>>>>
-    ensures { IfOk result (λ r. cases_found r ≡ in_two (λ bs cs. bs ++ cs) f.now (cases_found left.entry) g.now (cases_found right.entry)) }
+fn alternatives(alloc: Global, left: Part, right: Part) -> Mem<Part>
+    ensures { IfOk result (λ r. seen r ≡ in_two Or (λ bs cs. bs ++ cs) (seen left) (seen right)) }
 {
-    if left.is_none() && right.is_none() {
-        return Ok(None);
+    match left {
+        Part::Lacks(f) => match right {
+            Part::Lacks(g) => {
+                let form = disjunction(alloc, f, g)?;
+                Ok(Part::Lacks(form))
+            }
+            Part::Splits(right) => {
+                let left = whole(alloc, f)?;
+                either(alloc, left, right)
+            }
+        },
+        Part::Splits(left) => {
+            let right = split_of(alloc, right)?;
+            either(alloc, left, right)
+        }
     }
-    let left = part_of(alloc, f, left)?;
-    let right = part_of(alloc, g, right)?;
+}
+
+/// The same where one of them has the predicate.
+fn either(alloc: Global, left: Boxed<Split>, right: Boxed<Split>) -> Mem<Part>
+    ensures { IfOk result (λ r. seen r ≡ Falls (cases_in left ++ cases_in right)) }
+{
     let split = Boxed::new(alloc, Split::Either(left, right))?;
-    Ok(Some(split))
+    Ok(Part::Splits(split))
 }
 
 /// A part below an existential variable.
-fn below<'a>(alloc: Global, x: Var, part: Option<Boxed<Split<'a>>>) -> Mem<Option<Boxed<Split<'a>>>>
-    ensures { IfOk result (λ r. cases_found r ≡ below_it x (cases_found part.entry)) }
+fn below(alloc: Global, x: Var, part: Part) -> Mem<Part>
+    ensures { IfOk result (λ r. seen r ≡ below_it x (seen part)) }
 {
     match part {
-        Some(part) => {
-            let split = Boxed::new(alloc, Split::Below(x, part))?;
-            Ok(Some(split))
+        Part::Lacks(form) => {
+            let form = exists(alloc, x, form)?;
+            Ok(Part::Lacks(form))
         }
-        None => Ok(None),
+        Part::Splits(part) => {
+            let split = Boxed::new(alloc, Split::Below(x, part))?;
+            Ok(Part::Splits(split))
+        }
     }
 }
 
-/// Adds the cases of the split, each behind what the case has already. The case is moved into the last of them and copied
-/// for the others.
-#[cycle(spread)]
-pub fn spread(alloc: Global, split: &Split<'_>, case: Case, out: &mut Vec<Case>) -> Mem<()>
-    ensures { OnOk result (out.new.items ≡ out.old.items ++ map (joined case) (cases_in split.now)) }
+/// A split that equals this one.
+#[cycle(copy)]
+fn copy_split(alloc: Global, split: &Split) -> Mem<Split>
+    ensures { IfOk result (λ copy. copy ≡ split.now) }
 {
     match split {
         Split::Whole(form) => {
-            let case = with_formula(alloc, case, form)?;
+            let form = copy_boxed(alloc, form)?;
+            Ok(Split::Whole(form))
+        }
+        Split::Both(left, right) => {
+            let left = copy_part(alloc, left)?;
+            let right = copy_part(alloc, right)?;
+            Ok(Split::Both(left, right))
+        }
+        Split::Either(left, right) => {
+            let left = copy_part(alloc, left)?;
+            let right = copy_part(alloc, right)?;
+            Ok(Split::Either(left, right))
+        }
+        Split::Below(x, part) => {
+            let part = copy_part(alloc, part)?;
+            Ok(Split::Below(*x, part))
+        }
+    }
+}
+
+/// The boxed form of `copy_split`.
+#[cycle(copy)]
+fn copy_part(alloc: Global, split: &Boxed<Split>) -> Mem<Boxed<Split>>
+    ensures { IfOk result (λ copy. copy ≡ split.now) }
+{
+    let split = copy_split(alloc, split.get())?;
+    Boxed::new(alloc, split)
+}
+
+/// Adds the cases of the split, each behind what the case has already. The case and the formulas of the split are moved into
+/// the last of the cases that they stand in, and copied for the others.
+#[cycle(spread)]
+pub fn spread(alloc: Global, split: Boxed<Split>, case: Case, out: &mut Vec<Case>) -> Mem<()>
+    ensures { OnOk result (out.new.items ≡ out.old.items ++ map (joined case) (cases_in split)) }
+{
+    match split.into_inner() {
+        Split::Whole(form) => {
+            let case = with_formula(case, form)?;
             out.push(case)?;
             Ok(())
         }
         Split::Both(left, right) => {
             let mut lefts = Vec::new(alloc);
-            spread(alloc, left.get(), case, &mut lefts)?;
+            spread(alloc, left, case, &mut lefts)?;
             spread_each(alloc, right, lefts, out)
         }
         Split::Either(left, right) => {
             let copy = case.copy(alloc)?;
-            spread(alloc, left.get(), copy, out)?;
-            spread(alloc, right.get(), case, out)
+            spread(alloc, left, copy, out)?;
+            spread(alloc, right, case, out)
         }
         Split::Below(x, part) => {
-            let case = with_variable(case, *x)?;
-            spread(alloc, part.get(), case, out)
+            let case = with_variable(case, x)?;
+            spread(alloc, part, case, out)
         }
     }
 }
 
 /// Adds the cases of the split behind each of these, in order.
 #[cycle(spread)]
-fn spread_each(
+fn spread_each(alloc: Global, split: Boxed<Split>, cases: Vec<Case>, out: &mut Vec<Case>) -> Mem<()>
+    ensures { OnOk result (out.new.items ≡ out.old.items ++ pairings cases.items (cases_in split)) }
+{
+    let mut cases = cases;
+    match cases.pop() {
+        Some(last) => {
+            spread_copies(alloc, &split, cases, out)?;
+            spread(alloc, split, last, out)
+        }
+        None => Ok(()),
+    }
+}
+
+/// The same with a copy of the split for each.
+#[cycle(spread)]
+fn spread_copies(
     alloc: Global,
-    split: &Boxed<Split<'_>>,
+    split: &Boxed<Split>,
     cases: Vec<Case>,
     out: &mut Vec<Case>,
 ) -> Mem<()>
@@ -179,17 +252,16 @@ fn spread_each(
     let mut left = cases;
     left.reverse();
     while let Some(case) = left.pop() {
-        spread(alloc, split.get(), case, out)?;
+        let copy = copy_part(alloc, split)?;
+        spread(alloc, copy, case, out)?;
     }
     Ok(())
 }
 
 /// The case with one more formula.
-fn with_formula(alloc: Global, case: Case, form: &Form) -> Mem<Case>
-    ensures { IfOk result (λ r. r ≡ record { vars = case.vars; conj = case.conj ++ form.now ∷ [] }) }
+fn with_formula(case: Case, form: Boxed<Form>) -> Mem<Case>
+    ensures { IfOk result (λ r. r ≡ record { vars = case.vars; conj = case.conj ++ form ∷ [] }) }
 {
-    let form = form.copy(alloc)?;
-    let form = Boxed::new(alloc, form)?;
     let Case { vars, conj } = case;
     let mut conj = conj;
     conj.push(form)?;

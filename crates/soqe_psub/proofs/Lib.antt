@@ -6,4 +6,3 @@ pub mod BoundArguments
 pub mod PredSorts
 pub mod PredGone
 pub mod PredSubLaws
-pub mod BlocksKept

@@ -5,7 +5,7 @@ use Rattle.std.proofs.lemmas.List.{length-map}
 use Rattle.soqe_term.specs.declared.term.Var.{Var}
 use Rattle.soqe_term.specs.declared.term.Terms.{Terms}
 use Rattle.soqe_term.specs.Sorting.{Sorting}
-use Rattle.soqe_term.proofs.Choices.{by_cases, bool_cases, and_second, and_fails, or_none_first, or_none_second}
+use Rattle.soqe_term.proofs.Choices.{by_cases, bool_cases, and_second, or_none_first, or_none_second}
 use Rattle.soqe_form.specs.declared.form.PVar.{PVar}
 use Rattle.soqe_form.specs.declared.form.Pred.{Pred}
 use Rattle.soqe_form.specs.declared.form.Form.{Form, True, False, Equal, Atom, Not', And', Or', Imp', Iff', All', Ex', All2, All2', Ex2, Ex2', end_of-Form as end, more_of-Form as one}
@@ -17,12 +17,12 @@ use Rattle.soqe_form.specs.Places.{has_blocks}
 use Rattle.soqe_form.specs.PredRenaming.{renamed_pred, renumbered}
 use Rattle.soqe_form.specs.Sorted.{sorted}
 use Rattle.soqe_form.specs.Substitution.{renamed, numbered, sub}
-use Rattle.soqe_psub.proofs.BlocksKept.{has_blocks-renamed, has_blocks-sub}
+use Rattle.soqe_form.proofs.BlockCounts.{has_blocks-renamed, has_blocks-sub}
 use Rattle.soqe_form.proofs.FreeAtoms.{has_atom-any, has_atom-none, has_atom-lacks, has_atom-renamed, has_atom-renamed_pred, has_atom-sub, sorted-counts}
 use Rattle.soqe_form.proofs.PredRenamings.{depth-renamed_pred, hides-none}
 use Rattle.soqe_form.proofs.PredSorts.{pred_sorts-over_pred}
 use Rattle.soqe_form.proofs.Renamings.{depth-renamed, depth-positive}
-use Rattle.soqe_psub.specs.PredSubst.{arguments, catches_var, fresh_var, new_binder, new_body, catches_pred, fresh_pred, new_pred_binder, new_pred_body, atom_sub, pred_sub}
+use Rattle.soqe_psub.specs.PredSubst.{arguments, catches_var, fresh_var, new_body, catches_pred, fresh_pred, new_pred_binder, new_pred_body, atom_sub, pred_sub}
 use Rattle.soqe_psub.specs.PredSubstLaws.{param_sorts}
 use Rattle.soqe_psub.proofs.NewNumbers.{fresh_pred-is}
 
@@ -135,7 +135,7 @@ module _ (q : Pred) (xs : List Var) (b : Form) (bare : has_blocks b ≡ false) w
   bare_atom : (p : Pred) (ts : Terms) → has_blocks (atom_sub q xs b p ts) ≡ false
   bare_atom p ts =
       by_cases (λ r. has_blocks r ≡ false) (same_pred q p && eqb (count ts) (length xs)) (sub (depth b) (arguments xs ts) b) (Atom p ts)
-      (λ _. has_blocks-sub (depth b) (arguments xs ts) b (omega arith) ∙ bare) (λ _. refl)
+      (λ _. has_blocks-sub (depth b) (arguments xs ts) b ∙ bare) (λ _. refl)
 
   bare_below : (k : ℕ) (y : Var) (f : Form) → Bare k → depth f ≤ k → has_blocks f ≡ false → has_blocks (pred_sub k q xs b (new_body q xs b y f)) ≡ false
   bare_below k y f h d o =

@@ -12,4 +12,5 @@ mod pred_substitution;
 #[cfg(test)]
 mod tests;
 
-pub use pred_substitution::pred_subst;
+pub use fresh_names::mark_own;
+pub use pred_substitution::{Replacement, pred_subst, pred_subst_by};

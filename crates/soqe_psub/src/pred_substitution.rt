@@ -18,12 +18,12 @@ use std::alloc::Global;
 
 /// A predicate with the body that takes the place of its atoms.
 #[derive(Drop)]
-struct Replacement<'a> {
-    pred: &'a Pred,
-    params: &'a Vars,
-    body: &'a Form,
-    /// On the numbers of the variables that are free in the body and no parameters.
-    marks: Marks,
+pub struct Replacement<'a> {
+    pub pred: &'a Pred,
+    pub params: &'a Vars,
+    pub body: &'a Form,
+    /// On the numbers of the variables that are free in the body and no parameters, as `mark_own` makes them.
+    pub marks: Marks,
 }
 
 /// The formula with the body in place of each free atom of the predicate that has as many arguments as there are parameters,
@@ -56,9 +56,17 @@ pub fn pred_subst(
         body,
         marks,
     };
-    let form = replace(alloc, form, &by)?;
-    let form = Boxed::new(alloc, form)?;
+    let form = pred_subst_by(alloc, form, &by)?;
     Ok(form)
+}
+
+/// What `pred_subst` gives, for a replacement that serves several formulas: its marks are made once for all of them.
+pub fn pred_subst_by(alloc: Global, form: &Form, by: &Replacement) -> Mem<Boxed<Form>>
+    requires { HasMarks by.now }
+    ensures { IfOk result (λ r. Replaces by.now form.now r) }
+{
+    let form = replace(alloc, form, by)?;
+    Boxed::new(alloc, form)
 }
 
 /// The formula with the predicate replaced.

@@ -5,7 +5,7 @@ use Rattle.soqe_dls.proofs.tidy_case.tidy_case.Goals as goal
 
 pub take_case-requires : goal.take_case-requires
 take_case-requires c =
-    let t = tidy-case c.args.keep.now c.args.case.now.vars c.args.case.now.conj in
+    let t = tidy-case c.args.keep.now c.args.case.vars c.args.case.conj in
     record {
       vars = t.vars;
       conj = t.conj;

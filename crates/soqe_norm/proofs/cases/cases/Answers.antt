@@ -1,5 +1,4 @@
-use Rattle.std.proofs.Common.{◌∙◌, ap}
-use Rattle.soqe_norm.specs.Cases.{cases_of}
+use Rattle.std.proofs.Common.{◌∙◌}
 use Rattle.soqe_norm.proofs.CaseTruth.{alike-are}
 use Rattle.soqe_norm.proofs.cases.cases.Goals as goal
 
@@ -7,7 +6,7 @@ pub returns-clause-exact : goal.returns-clause-exact
 returns-clause-exact c = record {
   apart = c.in_ok-distinct.distinct;
   distinct = c.in_ok-distinct.ensures.exact;
-  are = c.of.ensures ∙ c.in_ok-items.ensures ∙ ap (cases_of c.args.pred.now) c.get.ensures;
+  are = c.of.ensures ∙ c.in_ok-items.ensures;
 }
 
 pub returns-clause-truth : goal.returns-clause-truth

@@ -7,5 +7,5 @@ use Rattle.soqe_norm.proofs.cases.cases_of_split.Goals as goal
 pub returns : goal.returns
 returns c =
     c.in_ok-spread.ensures
-    ∙ (λ i. c.new-items.ensures.items i ++ map (both (record { vars = c.new.ensures i; conj = c.new-2.ensures i })) (cases_in c.args.split.now))
-    ∙ none-in_front (cases_in c.args.split.now)
+    ∙ (λ i. c.new-items.ensures.items i ++ map (both (record { vars = c.new.ensures i; conj = c.new-2.ensures i })) (cases_in c.args.split))
+    ∙ none-in_front (cases_in c.args.split)

@@ -1,22 +1,20 @@
-use Rattle.std.proofs.Common.{sym, subst}
-use Rattle.soqe_psub.specs.PredSubst.{IsPredSub}
 use Rattle.soqe_psub.proofs.PredSubLaws.{truth_of, sorts_of, gone_of, gone_sorted_of, no_blocks_of}
 use Rattle.soqe_psub.proofs.pred_substitution.pred_subst.Goals as goal
 
 pub returns-clause-exact : goal.returns-clause-exact
-returns-clause-exact c = subst (IsPredSub c.args.pred.now c.args.params.now c.args.body.now c.args.form.now) (sym c.in_ok-form-2.ensures) c.in_ok-form.ensures
+returns-clause-exact c = c.in_ok-form.ensures
 
 pub returns-clause-truth : goal.returns-clause-truth
-returns-clause-truth c = truth_of c.args.pred.now c.args.params.now c.args.body.now c.args.form.now c.in_ok-form-2.form (returns-clause-exact c)
+returns-clause-truth c = truth_of c.args.pred.now c.args.params.now c.args.body.now c.args.form.now c.in_ok-form.form (returns-clause-exact c)
 
 pub returns-clause-sorted : goal.returns-clause-sorted
-returns-clause-sorted c = sorts_of c.args.pred.now c.args.params.now c.args.body.now c.args.form.now c.in_ok-form-2.form (returns-clause-exact c)
+returns-clause-sorted c = sorts_of c.args.pred.now c.args.params.now c.args.body.now c.args.form.now c.in_ok-form.form (returns-clause-exact c)
 
 pub returns-clause-gone : goal.returns-clause-gone
-returns-clause-gone c = gone_of c.args.pred.now c.args.params.now c.args.body.now c.args.form.now c.in_ok-form-2.form (returns-clause-exact c)
+returns-clause-gone c = gone_of c.args.pred.now c.args.params.now c.args.body.now c.args.form.now c.in_ok-form.form (returns-clause-exact c)
 
 pub returns-clause-gone_where_sorted : goal.returns-clause-gone_where_sorted
-returns-clause-gone_where_sorted c = gone_sorted_of c.args.pred.now c.args.params.now c.args.body.now c.args.form.now c.in_ok-form-2.form (returns-clause-exact c)
+returns-clause-gone_where_sorted c = gone_sorted_of c.args.pred.now c.args.params.now c.args.body.now c.args.form.now c.in_ok-form.form (returns-clause-exact c)
 
 pub returns-clause-no_blocks : goal.returns-clause-no_blocks
-returns-clause-no_blocks c = no_blocks_of c.args.pred.now c.args.params.now c.args.body.now c.args.form.now c.in_ok-form-2.form (returns-clause-exact c)
+returns-clause-no_blocks c = no_blocks_of c.args.pred.now c.args.params.now c.args.body.now c.args.form.now c.in_ok-form.form (returns-clause-exact c)
