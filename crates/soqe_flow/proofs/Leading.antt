@@ -1,8 +1,8 @@
 -- The lines that are written so far lead to a derivation of the goal with whatever lines follow from what stands.
-use Rattle.std.proofs.Common.{◌≡◌, ℕ, Bool, List, [], ◌∷◌, ◌++◌, Some, None, refl, sym, ◌∙◌, ap, subst, append_assoc}
+use Rattle.std.proofs.Common.{◌≡◌, ◌<◌, ℕ, Bool, List, [], ◌∷◌, ◌++◌, Some, None, refl, sym, ◌∙◌, ap, subst, append_assoc}
 use Rattle.soqe_form.specs.declared.form.Form.{Form}
 use Rattle.soqe_form.specs.declared.form.Block.{Block}
-use Rattle.soqe_form.specs.Places.{first_block}
+use Rattle.soqe_form.specs.Places.{first_block, count_blocks}
 use Rattle.soqe_norm.specs.Valued.{value_for}
 use Rattle.soqe_ack.specs.declared.steps.DlsStep.{DlsStep}
 use Rattle.soqe_dls.specs.declared.elimination.DlsEnd.TheVariants as end
@@ -15,6 +15,7 @@ use Rattle.soqe_flow.specs.declared.derivation.Wanted.{Wanted}
 use Rattle.soqe_flow.specs.declared.derivation.Wanted.TheVariants as wanted
 use Rattle.soqe_flow.specs.declared.blocks.BlockEnd.TheVariants as block
 use Rattle.soqe_flow.specs.Ordered.{Ending, Result, Stops, Follows, result, sign, mixed, dls, not_reached, sign_lines, after_sign, normal, closed_by, after_block, cases_lines, lost_lines}
+use Rattle.soqe_flow.proofs.FewerBlocks.{fewer-sign, fewer-cases}
 use Rattle.soqe_flow.specs.Running.{Derives, HasRun, WritesBlock, IsMixed, mixed_lines}
 
 abbrev pub Leads : List ℕ → Wanted → Form → List Line → Form → Type 0
@@ -43,7 +44,12 @@ leads-result keep w g f all h k = (f, k (line.Result f ∷ line.End ∷ []) (Res
 
 pub writes-sign : (keep : List ℕ) (f next : Form) (old new : List Line) (b : Block) (v : Bool) → first_block f ≡ Some b → value_for b ≡ Some v
     → new ≡ old ++ sign_lines keep b v → next ≡ after_sign keep f b v → WritesBlock keep wanted.Sign f old new (block.Stands next)
-writes-sign keep f next old new b v h q e n = (sign_lines keep b v, e, λ ms x r. sign h q (subst (λ g. Follows keep wanted.Sign g ms x) n r))
+writes-sign keep f next old new b v h q e n = (
+  sign_lines keep b v,
+  e,
+  λ ms x r. sign h q (subst (λ g. Follows keep wanted.Sign g ms x) n r),
+  subst (λ g. count_blocks g < count_blocks f) (sym n) (fewer-sign keep f b v h),
+)
 
 pub writes-mixed : (keep : List ℕ) (f : Form) (old new : List Line) (b : Block) (s : Stop) → first_block f ≡ Some b → IsMixed b s
     → new ≡ old ++ mixed_lines b s → WritesBlock keep wanted.Sign f old new (block.Stopped s)
@@ -61,6 +67,7 @@ writes-cases keep f form next old mid new b steps h a e k n =
       k ∙ ap (λ ms. ms ++ close) e ∙ append_assoc old ls close,
       λ ms x r. subst (λ ns. Follows keep wanted.Dls f ns x) (sym (append_assoc ls close ms))
           (dls h a (subst (λ g. Follows keep wanted.Dls g ms x) n r)),
+      subst (λ g. count_blocks g < count_blocks f) (sym n) (fewer-cases keep f form b steps h a),
     )
 
 pub writes-lost : (keep : List ℕ) (f : Form) (old mid new : List Line) (b : Block) (steps : List DlsStep) (n : ℕ) → first_block f ≡ Some b

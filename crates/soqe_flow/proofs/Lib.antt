@@ -1,4 +1,5 @@
 pub mod CasesValid
+pub mod FewerBlocks
 pub mod Leading
 pub mod Marked
 pub mod Unique

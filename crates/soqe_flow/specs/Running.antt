@@ -1,8 +1,9 @@
 -- The lines of a derivation while they are written.
-use Rattle.std.specs.Prelude.{◌≡◌, ℕ, List, [], ◌∷◌, ◌++◌, Option, Some, None}
+use Rattle.std.specs.Prelude.{◌≡◌, ◌<◌, ℕ, List, [], ◌∷◌, ◌++◌, Option, Some, None}
 use Rattle.soqe_form.specs.declared.form.Form.{Form}
 use Rattle.soqe_form.specs.declared.form.Pred.TheVariants.{Bound}
 use Rattle.soqe_form.specs.declared.form.Block.{Block}
+use Rattle.soqe_form.specs.Places.{count_blocks}
 use Rattle.soqe_norm.specs.Valued.{first_pos, first_neg}
 use Rattle.soqe_deriv.specs.declared.document.Method.TheVariants as method
 use Rattle.soqe_deriv.specs.declared.document.Stop.{Stop}
@@ -25,10 +26,12 @@ abbrev pub HasRun : List ℕ → Wanted → Form → List Line → Option Stop �
 HasRun keep w g ls None = (f : Form) × Derives keep w g ls (Result f)
 HasRun keep w g ls (Some s) = Derives keep w g ls (Stops s)
 
--- the lines of a block are added, and go on to whatever follows where the next formula stands, or end with the stop
+-- The lines of a block are added. They go on to whatever follows where the next formula stands, which has fewer quantifiers of
+-- predicates, or end with the stop.
 abbrev pub WritesBlock : List ℕ → Wanted → Form → List Line → List Line → BlockEnd → Type 0
 WritesBlock keep w f old new (block.Stands next) =
     (ls : List Line) × (new ≡ old ++ ls) × ((ms : List Line) (e : Ending) → Follows keep w next ms e → Follows keep w f (ls ++ ms) e)
+    × (count_blocks next < count_blocks f)
 WritesBlock keep w f old new (block.Stopped s) = (ls : List Line) × (new ≡ old ++ ls) × Follows keep w f ls (Stops s)
 
 -- the stop has the places where the block's predicate first occurs with each sign

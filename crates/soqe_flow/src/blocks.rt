@@ -13,7 +13,7 @@ use soqe_deriv::{Line, Lines, Stop};
 use soqe_form::{Block, Form, copy_boxed, first_block};
 use soqe_term::{Mem, Nums};
 use sqlite_items::Boxed;
-use std::alloc::{AllocError, Global};
+use std::alloc::Global;
 
 /// The lines of a derivation, and its stop where it has one.
 #[derive(Drop)]
@@ -29,14 +29,14 @@ pub(crate) enum BlockEnd {
     Stopped(Stop),
 }
 
-/// The lines of the derivation of a goal. No binder of its formulas gets a number of `keep`. Each block has a line at least, and
-/// no memory holds as many as the loop allows.
+/// The lines of the derivation of a goal. No binder of its formulas gets a number of `keep`. It ends, since each block takes a
+/// quantifier of a predicate away and none is new.
 pub(crate) fn run_blocks(alloc: Global, goal: &Form, keep: &Nums, wanted: Wanted) -> Mem<Run>
     ensures { IfOk result (λ run. HasRun keep.now wanted (simplified_of keep.now goal.now) run.lines run.stop) }
 {
     let mut lines = Lines::new(alloc);
     let mut now = write_start(alloc, &mut lines, goal, keep)?;
-    for _ in 0..u64::MAX {
+    loop {
         match first_block(alloc, now.get())? {
             None => {
                 write_result(&mut lines, now)?;
@@ -53,7 +53,6 @@ pub(crate) fn run_blocks(alloc: Global, goal: &Form, keep: &Nums, wanted: Wanted
             },
         }
     }
-    Err(AllocError)
 }
 
 /// The line that starts with a goal, simplified, and what stands then.

@@ -8,11 +8,14 @@ use Rattle.soqe_flow.proofs.blocks.run_blocks.Goals as goal
 pub returns-in-None : goal.returns-in-None
 returns-in-None c =
     let start = simplified c.args.keep.now c.args.goal.now in
-    let bare : first_block c.loop.now ≡ None = ap first_block (sym c.get.ensures) ∙ sym c.in_ok-first_block.ensures ∙ c.in-None.is in
+    let bare : first_block c.loop-now.now ≡ None = ap first_block (sym c.get.ensures) ∙ sym c.in_ok-first_block.ensures ∙ c.in-None.is in
     subst (λ ls. HasRun c.args.keep.now c.args.wanted start ls None) (sym c.in_ok-write_result-in-None.ensures)
-    (leads-result c.args.keep.now c.args.wanted start c.loop.now c.loop.lines bare c.loop.invariant)
+    (leads-result c.args.keep.now c.args.wanted start c.loop-now.now c.loop-now.lines bare c.loop-now.invariant)
 
-pub loop-preserved : goal.loop-preserved
-loop-preserved c =
-    leads-on c.args.keep.now c.args.wanted (simplified c.args.keep.now c.args.goal.now) c.loop.now c.in-Stands.next c.loop.lines c.write_block.new.lines c.loop.invariant
-    (subst (WritesBlock c.args.keep.now c.args.wanted c.loop.now c.loop.lines c.write_block.new.lines) c.in-Stands.is c.in_ok-next-in-Some.ensures)
+pub loop-now-smaller : goal.loop-now-smaller
+loop-now-smaller c = (subst (WritesBlock c.args.keep.now c.args.wanted c.loop-now.now c.loop-now.lines c.write_block.new.lines) c.in-Stands.is c.in_ok-next-in-Some.ensures).3
+
+pub loop-now-preserved : goal.loop-now-preserved
+loop-now-preserved c =
+    leads-on c.args.keep.now c.args.wanted (simplified c.args.keep.now c.args.goal.now) c.loop-now.now c.in-Stands.next c.loop-now.lines c.write_block.new.lines c.loop-now.invariant
+    (subst (WritesBlock c.args.keep.now c.args.wanted c.loop-now.now c.loop-now.lines c.write_block.new.lines) c.in-Stands.is c.in_ok-next-in-Some.ensures)
