@@ -25,6 +25,7 @@ pub mod BackBinders
 pub mod BackForms
 pub mod Back
 pub mod FormBack
+pub mod TermBack
 pub mod BackSpelled
 pub mod BackSpelledForms
 pub mod BackGoal

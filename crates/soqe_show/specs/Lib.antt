@@ -4,3 +4,4 @@ pub mod Lines
 pub mod Placed
 pub mod Back
 pub mod FormBack
+pub mod TermBack

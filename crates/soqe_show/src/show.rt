@@ -4,6 +4,7 @@ ghost use Rattle.soqe_show.specs.Back.{SpellsWhereSome};
 ghost use Rattle.soqe_show.specs.Dress.{dress_term, form_text, problem_text};
 ghost use Rattle.soqe_show.specs.FormBack.{SpellsWhereReadable};
 ghost use Rattle.soqe_show.specs.Printed.{term_text};
+ghost use Rattle.soqe_show.specs.TermBack.{StandsFor};
 
 use crate::formulas::write_form;
 use crate::problems::write_problem;
@@ -13,9 +14,12 @@ use soqe_term::{Mem, Signature, Term};
 use soqe_text::Problem;
 use std::alloc::Global;
 
-/// The printed text of a term. A term is read only as a part of a formula: there it is read back with the formula.
+/// The printed text of a term. A term is read only as a part of a formula: as a side of an equation the text is read back as the
+/// term, with whatever Skolem functions and free variables the equation is well sorted and can be read.
+#[tactic(auto, using(crate::proofs::TermBack::printed_term_stands))]
 pub fn show_term(alloc: Global, sig: &Signature, term: &Term) -> Mem<String>
-    ensures { IfOk result (λ text. string_bytes text ≡ term_text (dress_term sig.now term.now)) }
+    ensures text { IfOk result (λ text. string_bytes text ≡ term_text (dress_term sig.now term.now)) }
+    ensures back { IfOk result (λ text. StandsFor (string_bytes text) sig.now term.now) }
 {
     let mut text = String::new(alloc);
     write_term(&mut text, sig, term)?;
