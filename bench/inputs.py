@@ -7,6 +7,7 @@ import sys
 
 MIB = 1 << 20
 BY_SIGN = "elim --method sign"
+BY_CASES = "elim --method dls"
 
 
 def conjuncts(size, seed):
@@ -51,10 +52,20 @@ def blocks(n):
     return "\n".join(decls) + "\ngoal " + " &\n".join(parts) + ";\n"
 
 
+def guards(n):
+    """One guard that gives the predicate its value, and n conjuncts that get it."""
+    parts = ["all x. (Q(x) -> P(x))"] + ["all x. (P(x) -> R(x))"] * n
+    return "pred Q(obj); pred R(obj); goal ex2 P(obj). (" + " & ".join(parts) + ");\n"
+
+
 def main():
     folder = sys.argv[1]
     os.makedirs(folder, exist_ok=True)
     inputs = [
+        ("N = 10", guards(10), BY_CASES),
+        ("N = 100", guards(100), BY_CASES),
+        ("N = 1,000", guards(1000), BY_CASES),
+        ("N = 2,000", guards(2000), BY_CASES),
         ("conjuncts 1/4 MiB", conjuncts(MIB // 4, 1)),
         ("conjuncts 1/2 MiB", conjuncts(MIB // 2, 1)),
         ("conjuncts 1 MiB", conjuncts(MIB, 1)),
@@ -69,12 +80,12 @@ def main():
         ("400 blocks", blocks(400)),
         ("1000 blocks", blocks(1000)),
     ]
-    for number, (name, text) in enumerate(inputs):
+    for number, (name, text, *words) in enumerate(inputs):
         assert len(text) <= MIB, name
         path = os.path.join(folder, f"{number}.txt")
         with open(path, "w") as f:
             f.write(text)
-        print(f"{name}\t{BY_SIGN}\t{path}")
+        print(f"{name}\t{words[0] if words else BY_SIGN}\t{path}")
 
 
 main()
