@@ -11,10 +11,8 @@ use Rattle.soqe_form.specs.declared.form.Pred.TheVariants.{Bound}
 use Rattle.soqe_form.specs.declared.form.PVar.{PVar}
 use Rattle.soqe_form.specs.declared.form.Form.{Form}
 use Rattle.soqe_form.specs.FreeVars.{is_among}
-use Rattle.soqe_form.specs.Marks.{IsLeastWithout}
 use Rattle.soqe_form.specs.Mentions.{mentions, form_above, depth}
 use Rattle.soqe_form.proofs.Renamings.{mentions-above}
-use Rattle.soqe_form.proofs.TidyNumbers.{least-one}
 use Rattle.soqe_norm.specs.Apart.{IsLeast}
 use Rattle.soqe_norm.specs.Folds.{case_form}
 use Rattle.soqe_norm.specs.Rises.{has_sign}
@@ -26,6 +24,7 @@ use Rattle.soqe_ack.specs.GuardLaws.{HasParts}
 use Rattle.soqe_ack.specs.Guards.{IsGuard}
 use Rattle.soqe_ack.proofs.GuardOf.{unique, decided}
 use Rattle.soqe_ack.proofs.GuardSigns.{any_parameters}
+use Rattle.soqe_ack.proofs.ParameterNumbers.{one-parameters}
 use Rattle.soqe_ack.proofs.PredSubs.{is_pred_sub, pred_sub-unique}
 
 -- ---- parameters
@@ -77,21 +76,6 @@ parameters-exist keep vars fs sorts =
     some_parameters sorts (is_used keep vars fs) (max (nums_above keep) (max (vars_above vars) (forms_above fs)))
     (λ n h. or_from (member n keep) (is_among vars n || list_any (λ f. mentions n f) fs) (member-above n keep (omega arith))
     (or_from (is_among vars n) (list_any (λ f. mentions n f) fs) (is_among-above n vars (omega arith)) (any-above n fs (omega arith))))
-
-least-without : (p : ℕ → Bool) (n : ℕ) → IsLeast p n → IsLeastWithout (λ m. not (p m)) n
-least-without p n l = record { fails = ap not l.passes; below = λ k h. ap not (l.least k h) }
-
-parameters-one : (used : ℕ → Bool) (sorts : List ℕ) (xs ys : List Var) → AreParameters used sorts xs → AreParameters used sorts ys → xs ≡ ys
-parameters-one used [] [] [] h k = refl
-parameters-one used [] [] (y ∷ ys) h k = absurd k
-parameters-one used [] (x ∷ xs) ys h k = absurd h
-parameters-one used (s ∷ sorts) [] ys h k = absurd h
-parameters-one used (s ∷ sorts) (x ∷ xs) [] h k = absurd k
-parameters-one used (s ∷ sorts) (x ∷ xs) (y ∷ ys) h k =
-    let n : x.num ≡ y.num = least-one (λ m. not (not (used m))) x.num y.num (least-without (λ m. not (used m)) x.num h.1) (least-without (λ m. not (used m)) y.num k.1) in
-    let t : x.sort ≡ y.sort = h.0 ∙ sym k.0 in
-    let more : xs ≡ ys = parameters-one (λ m. eqb m x.num || used m) sorts xs ys h.2 (subst (λ a. AreParameters (λ m. eqb m a || used m) sorts ys) (sym n) k.2) in
-    λ i. record { num = n i; sort = t i } ∷ more i
 
 -- ---- conditions
 
@@ -185,7 +169,7 @@ not-both s p keep vars fs params value form a t =
 pub acked-one : (s : Bool) (p : PVar) (keep : List ℕ) (vars : List Var) (fs : List Form) (xs ys : List Var) (v w f g : Form)
     → IsAcked s p keep vars fs xs v f → IsAcked s p keep vars fs ys w g → (xs ≡ ys) × (v ≡ w) × (f ≡ g)
 acked-one s p keep vars fs xs ys v w f g a b =
-    let e : xs ≡ ys = parameters-one (is_used keep vars fs) p.args xs ys a.parameters b.parameters in
+    let e : xs ≡ ys = one-parameters (is_used keep vars fs) p.args xs ys a.parameters b.parameters in
     let cs : a.conditions ≡ b.conditions = conditions-one s (Bound p.num) xs a.conditioned (subst (λ zs. AreConditions s (Bound p.num) zs fs b.conditions) (sym e) b.conditioned) in
     let k : v ≡ w = a.is_value ∙ ap (value_of s) cs ∙ sym b.is_value in
     let gs : a.conjuncts ≡ b.conjuncts =

@@ -8,6 +8,7 @@ use Rattle.soqe_form.specs.declared.form.Form.{Form}
 use Rattle.soqe_form.specs.Constants.{constant}
 use Rattle.soqe_norm.specs.Folds.{all_of, exists_in}
 use Rattle.soqe_norm.specs.Nnf.{nnf}
+use Rattle.soqe_norm.proofs.Joins.{joined_any}
 use Rattle.soqe_ack.specs.declared.applying.Acked.{Acked}
 use Rattle.soqe_ack.specs.declared.dividing.Divided.{Divided}
 use Rattle.soqe_ack.specs.Acked.{AreParameters, is_used, IsAcked, IsStuck}
@@ -18,7 +19,6 @@ use Rattle.soqe_ack.proofs.AckedSorts.{form-is-sorted}
 use Rattle.soqe_ack.proofs.AckermannCases.{ackermann}
 use Rattle.soqe_ack.proofs.AckermannGone.{gone}
 use Rattle.soqe_ack.proofs.Division.{shares-clear}
-use Rattle.soqe_ack.proofs.Joins.{joined_any}
 
 module _ (s : Bool) (p : PVar) (keep : List ℕ) (vars : List Var) (fs : List Form) where
   -- the value and the formula by the divided conjuncts
@@ -53,6 +53,12 @@ module _ (s : Bool) (p : PVar) (keep : List ℕ) (vars : List Var) (fs : List Fo
   pub applied-lacks : (r : Option Acked) → IsApplied s p keep vars fs r → AppliedLacks p vars fs r
   applied-lacks None h = tt
   applied-lacks (Some a) h = gone s p keep vars fs a.params a.value a.form h
+
+-- what the try of a sign comes to, whichever the sign is
+pub acked-of : {p : PVar} {keep : List ℕ} {vars : List Var} {fs : List Form} {s : Bool} {params : List Var} {value form : Form}
+    → IsTried p keep vars fs s params value form → IsAcked s p keep vars fs params value form
+acked-of (positive a) = a
+acked-of (negative _ a) = a
 
 module _ (p : PVar) (keep : List ℕ) (vars : List Var) (fs : List Form) where
   pub tried-first : (o : Option Acked) (a : Acked) → IsApplied true p keep vars fs o → o ≡ Some a → IsTried p keep vars fs true a.params a.value a.form

@@ -4,7 +4,9 @@ use Rattle.std.specs.List.{Contains}
 use Rattle.soqe_term.specs.declared.term.Var.{Var}
 use Rattle.soqe_form.specs.declared.form.Pred.{Pred}
 use Rattle.soqe_form.specs.declared.form.Form.{Form}
+use Rattle.soqe_norm.specs.Joins.{with_or, or_onto}
 use Rattle.soqe_norm.specs.Rises.{has_sign}
+use Rattle.soqe_norm.proofs.Joins.{or_onto-push}
 use Rattle.soqe_psub.specs.PredSubst.{IsPredSub}
 use Rattle.soqe_ack.specs.declared.dividing.Role.{Role}
 use Rattle.soqe_ack.specs.declared.dividing.Role.TheVariants as role
@@ -14,9 +16,7 @@ use Rattle.soqe_ack.specs.declared.dividing.Divided.{Divided}
 use Rattle.soqe_ack.specs.Acked.{AreConditions, no_more, no_guard, guard, AreCleared, all_done, replaced, rest, IsStuck}
 use Rattle.soqe_ack.specs.Divides.{IsRole, is_in_way, next_condition, next_share, Takes, AreShares, nothing, lacks, waits, guards, IsDivided, share_form}
 use Rattle.soqe_ack.specs.Guards.{IsGuard}
-use Rattle.soqe_ack.specs.Joins.{with_or, or_onto}
 use Rattle.soqe_ack.proofs.GuardSigns.{no_sign, any_parameters}
-use Rattle.soqe_ack.proofs.Joins.{or_onto-push}
 use Rattle.soqe_ack.proofs.PredSubs.{is_pred_sub, pred_sub-lacks}
 
 module _ (s : Bool) (q : Pred) (xs : List Var) where

@@ -6,7 +6,6 @@ pub mod GuardOf
 pub mod GuardFound
 pub mod GuardSigns
 pub mod PredSubs
-pub mod Joins
 pub mod Division
 pub mod ParameterChoice
 pub mod GuardSorts

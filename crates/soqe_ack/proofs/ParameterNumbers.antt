@@ -1,5 +1,5 @@
--- The numbers of the parameters: distinct, and of nothing that stands in the case.
-use Rattle.std.proofs.Common.{◌≡◌, ℕ, suc, Bool, true, false, cond, eqb, ◌||◌, map, List, [], ◌∷◌, length, refl, sym, ◌∙◌, ap, arith, ⊎_elim}
+-- The numbers of the parameters: distinct, of nothing that stands in the case, and determined.
+use Rattle.std.proofs.Common.{◌≡◌, ℕ, suc, Bool, true, false, cond, eqb, not, ◌||◌, map, List, [], ◌∷◌, length, refl, sym, ◌∙◌, ap, subst, arith, ⊎_elim}
 use Rattle.std.specs.List.{list_any}
 use Rattle.std.proofs.lemmas.Bool.{eqb-true, not-true, both_ways, or_cases, cases_Bool, not_from_false}
 use Rattle.soqe_term.specs.declared.term.Var.{Var}
@@ -10,6 +10,7 @@ use Rattle.soqe_term.proofs.Worlds.{eqb-self, changed-off, changed-at}
 use Rattle.soqe_form.specs.declared.form.Form.{Form}
 use Rattle.soqe_form.specs.FreeVars.{is_among}
 use Rattle.soqe_form.specs.Mentions.{mentions}
+use Rattle.soqe_norm.proofs.Choosing.{one-least}
 use Rattle.soqe_psub.specs.PredSubstLaws.{with_args}
 use Rattle.soqe_ack.specs.Acked.{is_used, AreParameters}
 use Rattle.soqe_ack.specs.GuardLaws.{AgreeOff, elements_of, sorts_of, StandNowhere, AreDistinct}
@@ -45,6 +46,19 @@ parameters-distinct used (s ∷ sorts) (x ∷ xs) h = (
       (λ y. refl),
   parameters-distinct (λ n. eqb n x.num || used n) sorts xs h.2,
 )
+
+-- parameters are determined by their sorts and the numbers that are used
+pub one-parameters : (used : ℕ → Bool) (sorts : List ℕ) (xs ys : List Var) → AreParameters used sorts xs → AreParameters used sorts ys → xs ≡ ys
+one-parameters used [] [] [] h k = refl
+one-parameters used [] [] (y ∷ ys) h k = absurd k
+one-parameters used [] (x ∷ xs) ys h k = absurd h
+one-parameters used (s ∷ sorts) [] ys h k = absurd h
+one-parameters used (s ∷ sorts) (x ∷ xs) [] h k = absurd k
+one-parameters used (s ∷ sorts) (x ∷ xs) (y ∷ ys) h k =
+    let n : x.num ≡ y.num = one-least (λ m. not (used m)) x.num y.num h.1 k.1 in
+    let t : x.sort ≡ y.sort = h.0 ∙ sym k.0 in
+    let more : xs ≡ ys = one-parameters (λ m. eqb m x.num || used m) sorts xs ys h.2 (subst (λ a. AreParameters (λ m. eqb m a || used m) sorts ys) (sym n) k.2) in
+    λ i. record { num = n i; sort = t i } ∷ more i
 
 nowhere : (xs : List Var) (fs : List Form) → ((n : ℕ) → is_among xs n ≡ true → list_any (λ f. mentions n f) fs ≡ false) → StandInNone xs fs
 nowhere xs [] h = tt

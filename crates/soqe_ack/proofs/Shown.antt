@@ -1,8 +1,8 @@
 -- A value as it is shown. With the parameters in front, each parameter makes a pair with the one that is shown in its place, and
 -- no other free variable of the value has a number that is shown. Below these pairs the value is the same as with the new
 -- parameters, and that is the same as its tidy formula.
-use Rattle.std.proofs.Common.{◌≡◌, ℕ, Bool, true, false, eqb, not, ◌||◌, ◌&&◌, map, List, [], ◌∷◌, refl, sym, ◌∙◌, ap, subst, arith}
-use Rattle.std.proofs.lemmas.Bool.{both_ways, and_from, not-true}
+use Rattle.std.proofs.Common.{◌≡◌, ℕ, Bool, true, false, eqb, not, ◌||◌, ◌&&◌, map, List, [], ◌∷◌, refl, sym, ◌∙◌, ap, arith}
+use Rattle.std.proofs.lemmas.Bool.{both_ways, and_from}
 use Rattle.soqe_term.specs.declared.term.Var.{Var}
 use Rattle.soqe_term.specs.Sorting.{Sorting}
 use Rattle.soqe_term.specs.Unused.{member}
@@ -11,7 +11,6 @@ use Rattle.soqe_term.proofs.Worlds.{eqb-self}
 use Rattle.soqe_form.specs.declared.form.Form.{Form}
 use Rattle.soqe_form.specs.Free.{free}
 use Rattle.soqe_form.specs.FreeVars.{is_among}
-use Rattle.soqe_form.specs.Marks.{IsLeastWithout}
 use Rattle.soqe_form.specs.Mentions.{depth}
 use Rattle.soqe_form.specs.Same.{same_in, same}
 use Rattle.soqe_form.specs.Sorted.{sorted}
@@ -20,13 +19,11 @@ use Rattle.soqe_form.specs.Tidy.{tidy}
 use Rattle.soqe_form.proofs.SameOrder.{same-turned}
 use Rattle.soqe_form.proofs.SameSorted.{sorted-same}
 use Rattle.soqe_form.proofs.Tidied.{same-tidied}
-use Rattle.soqe_form.proofs.TidyNumbers.{least-one}
-use Rattle.soqe_norm.specs.Apart.{IsLeast}
 use Rattle.soqe_ack.specs.Acked.{AreParameters}
 use Rattle.soqe_ack.specs.AckedLaws.{below}
 use Rattle.soqe_ack.specs.GuardLaws.{AreDistinct}
 use Rattle.soqe_ack.specs.Tries.{by_vars, for_all, IsShown}
-use Rattle.soqe_ack.proofs.ParameterNumbers.{parameters-unused, parameters-distinct}
+use Rattle.soqe_ack.proofs.ParameterNumbers.{parameters-unused, parameters-distinct, one-parameters}
 use Rattle.soqe_ack.proofs.SameFronts.{Pairs, rights, twins, twins-diagonal, same_in-turned, fit-last, same_in-chained}
 use Rattle.soqe_ack.proofs.PairedVars.{HaveSameSorts, paired, same-by_vars, same-for_all, sorted-for_all}
 
@@ -88,30 +85,6 @@ shown-sorted keep params value ys w d h e o =
     ∙ o
 
 -- ---- one way
-
--- the least number that is not used
-least-without : (used : ℕ → Bool) (n : ℕ) → IsLeast (λ n. not (used n)) n → IsLeastWithout used n
-least-without used n h = record {
-  fails = not-true (used n) h.passes;
-  below = λ k l. not-fails (used k) (h.least k l);
-}
-  where
-    not-fails : (b : Bool) → not b ≡ false → b ≡ true
-    not-fails true h = refl
-    not-fails false h = sym h
-
--- parameters are determined by their sorts and the numbers that are used
-pub one-parameters : (used : ℕ → Bool) (sorts : List ℕ) (xs ys : List Var) → AreParameters used sorts xs → AreParameters used sorts ys → xs ≡ ys
-one-parameters used [] [] [] h k = refl
-one-parameters used [] [] (y ∷ ys) h k = absurd k
-one-parameters used [] (x ∷ xs) ys h k = absurd h
-one-parameters used (s ∷ sorts) [] ys h k = absurd h
-one-parameters used (s ∷ sorts) (x ∷ xs) [] h k = absurd k
-one-parameters used (s ∷ sorts) (x ∷ xs) (y ∷ ys) h k =
-    let number : y.num ≡ x.num = least-one used y.num x.num (least-without used y.num k.1) (least-without used x.num h.1) in
-    let more : xs ≡ ys =
-    one-parameters (λ n. eqb n x.num || used n) sorts xs ys h.2 (subst (λ m. AreParameters (λ n. eqb n m || used n) sorts ys) number k.2) in
-    λ i. record { num = sym number i; sort = (h.0 ∙ sym k.0) i } ∷ more i
 
 pub one-shown : (keep : List ℕ) (params : List Var) (value : Form) (xs ys : List Var) (f g : Form) → IsShown keep params value xs f → IsShown keep params value ys g → (xs ≡ ys) × (f ≡ g)
 one-shown keep params value xs ys f g h k =

@@ -5,11 +5,11 @@ use Rattle.soqe_form.specs.declared.form.Pred.{Pred}
 use Rattle.soqe_form.specs.declared.form.Form.{Form}
 use Rattle.soqe_form.specs.FreePreds.{has_free}
 use Rattle.soqe_form.specs.Mentions.{depth}
+use Rattle.soqe_norm.specs.Joins.{with_or, or_onto}
 use Rattle.soqe_norm.specs.Rises.{has_sign}
 use Rattle.soqe_psub.specs.PredSubst.{pred_sub}
 use Rattle.soqe_ack.specs.Acked.{AreConditions, IsStuck}
 use Rattle.soqe_ack.specs.Guards.{IsGuard}
-use Rattle.soqe_ack.specs.Joins.{with_or, or_onto}
 use Rattle.soqe_ack.specs.declared.dividing.Role.{Role}
 use Rattle.soqe_ack.specs.declared.dividing.Role.TheVariants as role
 use Rattle.soqe_ack.specs.declared.dividing.Share.{Share}

@@ -3,7 +3,6 @@ pub mod Guards
 pub mod Parts
 pub mod GuardEnds
 pub mod GuardLaws
-pub mod Joins
 pub mod Acked
 pub mod AckedLaws
 pub mod Divides

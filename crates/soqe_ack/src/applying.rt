@@ -3,19 +3,19 @@
 
 ghost use Rattle.std.specs.Prelude.{◌≡◌, IfOk, cond, true, map, None};
 ghost use Rattle.soqe_norm.specs.Folds.{all_of};
+ghost use Rattle.soqe_norm.specs.Joins.{and_onto};
 ghost use Rattle.soqe_norm.specs.Nnf.{nnf as nnf_of};
 ghost use Rattle.soqe_psub.specs.Replaces.{HasMarks};
 ghost use Rattle.soqe_ack.specs.Applied.{IsApplied, AppliedIsAlike, AppliedIsSorted, AppliedLacks};
 ghost use Rattle.soqe_ack.specs.Divides.{share_form};
-ghost use Rattle.soqe_ack.specs.Joins.{and_onto};
 ghost use Rattle.soqe_ack.specs.Signs.{is_pos};
 
 use crate::dividing::{Divided, Share, divide};
-use crate::folding::{and_next, exists_in, made_or};
 use crate::params::parameters;
 use crate::steps::Sign;
 use soqe_form::{Form, Forms, PVar, Pred};
 use soqe_norm::case_list::Case;
+use soqe_norm::folding::{and_next, exists_in, made_or};
 use soqe_norm::nnf::nnf;
 use soqe_psub::{Replacement, mark_own, pred_subst_by};
 use soqe_term::{Mem, Nums, Vars};
@@ -106,10 +106,8 @@ fn join_shares(alloc: Global, shares: Vec<Share<'_>>, by: &Replacement) -> Mem<O
     requires { HasMarks by.now }
     ensures { IfOk result (λ r. r ≡ and_onto None (map (share_form by.now.pred.now by.now.params.now by.now.body.now) shares.entry.items)) }
 {
-    let mut shares = shares;
-    shares.reverse();
     let mut made = None;
-    while let Some(share) = shares.pop() {
+    for share in shares {
         let next = settled(alloc, share, by)?;
         made = Some(and_next(alloc, made, next)?);
     }

@@ -6,10 +6,10 @@ ghost use Rattle.soqe_norm.specs.Rises.{has_sign as has_sign_of};
 ghost use Rattle.soqe_ack.specs.Signs.{is_pos};
 ghost use Rattle.soqe_ack.specs.Divides.{IsRole, is_in_way, Takes, IsDivision};
 
-use crate::folding::or_next;
 use crate::guarding::{Found, Parts, find};
 use crate::steps::Sign;
 use soqe_form::{Form, Pred, copy_boxed};
+use soqe_norm::folding::or_next;
 use soqe_norm::signs::signs;
 use soqe_term::{Mem, Vars};
 use sqlite_items::Boxed;

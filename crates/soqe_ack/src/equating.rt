@@ -8,7 +8,7 @@ ghost use Rattle.soqe_ack.specs.Guards.{equations as equations_of, equations_aft
 
 use soqe_form::Form;
 use soqe_form::make::{conjunction, constant};
-use soqe_term::{Mem, Term, Terms, Var};
+use soqe_term::{Mem, Term, Terms, Var, copy_term};
 use sqlite_items::Boxed;
 use std::alloc::Global;
 
@@ -24,7 +24,7 @@ pub(crate) fn equations(alloc: Global, params: &[Var], terms: &Terms) -> Mem<Box
         Terms::Cons(first, more) => match params.split_first() {
             None => constant(alloc, false),
             Some((x, others)) => {
-                let made = equation(alloc, *x, first.get())?;
+                let made = equation(alloc, *x, first)?;
                 further_equations(alloc, made, others, more.get())
             }
         },
@@ -48,7 +48,7 @@ fn further_equations(
         Terms::Cons(first, more) => match params.split_first() {
             None => constant(alloc, false),
             Some((x, others)) => {
-                let next = equation(alloc, *x, first.get())?;
+                let next = equation(alloc, *x, first)?;
                 let made = conjunction(alloc, made, next)?;
                 further_equations(alloc, made, others, more.get())
             }
@@ -56,9 +56,10 @@ fn further_equations(
     }
 }
 
-fn equation(alloc: Global, x: Var, term: &Term) -> Mem<Boxed<Form>>
+fn equation(alloc: Global, x: Var, term: &Boxed<Term>) -> Mem<Boxed<Form>>
     ensures { IfOk result (λ r. r ≡ Equal (var x) term.now) }
 {
-    let term = term.copy(alloc)?;
-    Boxed::new(alloc, Form::Equal(Term::Var(x), term))
+    let x = Boxed::new(alloc, Term::Var(x))?;
+    let term = copy_term(alloc, term)?;
+    Boxed::new(alloc, Form::Equal(x, term))
 }

@@ -8,7 +8,6 @@
 mod applying;
 mod dividing;
 mod equating;
-mod folding;
 mod guarding;
 pub mod laws;
 mod params;

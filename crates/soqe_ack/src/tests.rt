@@ -111,8 +111,8 @@ fn write(form: &Form, out: &mut Vec<u8>) -> Mem<()> {
         }
         Form::Equal(s, t) => {
             out.push(b'=')?;
-            write_term(s, out)?;
-            write_term(t, out)
+            write_term(s.get(), out)?;
+            write_term(t.get(), out)
         }
         Form::Atom(p, ts) => {
             write_pred(p, out)?;

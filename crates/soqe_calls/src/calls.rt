@@ -108,7 +108,8 @@ fn tidied(alloc: Global, form: &Boxed<Form>) -> Mem<u64>
     ensures { IfOk result (λ n. n ≡ nodes_of (tidy_form [] form.now)) }
 {
     let keep = Nums::new(alloc);
-    let made = tidy(alloc, form.get(), &keep)?;
+    let copy = copy_boxed(alloc, form)?;
+    let made = tidy(alloc, copy, &keep)?;
     count(&made)
 }
 
@@ -139,7 +140,8 @@ fn normalised(alloc: Global, form: &Boxed<Form>) -> Mem<u64>
 fn simplified(alloc: Global, form: &Boxed<Form>) -> Mem<u64>
     ensures { IfOk result (λ n. n ≡ nodes_of (simple form.now)) }
 {
-    let made = simplify(alloc, form.get())?;
+    let copy = copy_boxed(alloc, form)?;
+    let made = simplify(alloc, copy)?;
     count(&made)
 }
 

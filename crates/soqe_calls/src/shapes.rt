@@ -11,7 +11,7 @@ ghost use Rattle.soqe_calls.specs.Nodes.{nodes};
 ghost use Rattle.soqe_calls.specs.Shapes.{variable, with_first as with_first_of, image as image_of, part as part_of, core as core_of, wide as wide_of, bound as bound_of, negations as negations_of, shaped as shaped_of, size_of};
 
 use crate::words::Shape;
-use soqe_form::make::{conjunction, constant, exists, for_all, implication, negation};
+use soqe_form::make::{conjunction, constant, equation, exists, for_all, implication, negation};
 use soqe_form::{Form, Pred};
 use soqe_term::{Mem, Nums, Sym, Term, Terms, Var};
 use sqlite_items::Boxed;
@@ -127,8 +127,7 @@ fn told(alloc: Global) -> Mem<Boxed<Form>>
 fn difference(alloc: Global, num: u64) -> Mem<Boxed<Form>>
     ensures { IfOk result (λ f. f ≡ Not (Equal (var (variable 1)) (var (variable num)))) }
 {
-    let equal = Form::Equal(Term::Var(numbered(1)), Term::Var(numbered(num)));
-    let equal = Boxed::new(alloc, equal)?;
+    let equal = equation(alloc, Term::Var(numbered(1)), Term::Var(numbered(num)))?;
     negation(alloc, equal)
 }
 

@@ -19,9 +19,9 @@ use Rattle.soqe_ack.specs.declared.steps.DlsStep.{DlsStep}
 use Rattle.soqe_ack.specs.Signs.{is_pos}
 use Rattle.soqe_ack.specs.Tries.{IsTidyCase, IsTried}
 use Rattle.soqe_ack.proofs.AckedBlocks.{acked-bare}
+use Rattle.soqe_ack.proofs.Applies.{acked-of}
 use Rattle.soqe_dls.specs.declared.elimination.DlsEnd.TheVariants as end
 use Rattle.soqe_dls.specs.Runs.{Outcome, Reached, NotReached, after, IsRun, no_more, reached, stops, IsAnswer}
-use Rattle.soqe_dls.proofs.RunTruth.{acked-of}
 
 tidy-bare : (keep : List ℕ) (f : Form) → has_blocks f ≡ false → has_blocks (tidy keep f) ≡ false
 tidy-bare keep f h = blocks-same (tidy keep f) f (same-tidy keep f) ∙ h

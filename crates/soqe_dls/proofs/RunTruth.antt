@@ -29,11 +29,11 @@ use Rattle.soqe_norm.proofs.CaseSorts.{sorted-cases}
 use Rattle.soqe_norm.proofs.CaseTruth.{alike-are}
 use Rattle.soqe_norm.proofs.Folded.{any_passes, all_pass, truth-any, sorted-any}
 use Rattle.soqe_ack.specs.declared.steps.DlsStep.{DlsStep}
-use Rattle.soqe_ack.specs.Acked.{IsAcked}
 use Rattle.soqe_ack.specs.Signs.{is_pos}
-use Rattle.soqe_ack.specs.Tries.{IsTidyCase, IsTried, positive, negative}
+use Rattle.soqe_ack.specs.Tries.{IsTidyCase, IsTried}
 use Rattle.soqe_ack.proofs.AckermannCases.{ackermann}
 use Rattle.soqe_ack.proofs.AckedSorts.{form-is-sorted}
+use Rattle.soqe_ack.proofs.Applies.{acked-of}
 use Rattle.soqe_dls.specs.declared.elimination.DlsEnd.{DlsEnd}
 use Rattle.soqe_dls.specs.declared.elimination.DlsEnd.TheVariants as end
 use Rattle.soqe_dls.specs.RunLaws.{EndsTrue}
@@ -81,11 +81,6 @@ unfolding boxes
 below-sorted e p f = refl
 
 -- ---- one case
-
-pub acked-of : {p : PVar} {keep : List ℕ} {vars : List Var} {fs : List Form} {s : Bool} {params : List Var} {value form : Form}
-    → IsTried p keep vars fs s params value form → IsAcked s p keep vars fs params value form
-acked-of (positive a) = a
-acked-of (negative _ a) = a
 
 module _ (e : Sorting) (p : PVar) (keep : List ℕ) (c : Case) (vars : List Var) (fs : List Form) (s : Bool) (params : List Var) (value form : Form)
     (t : IsTidyCase keep c.vars c.conj vars fs) (a : IsTried p keep vars fs s params value form) (o : sorted (over_bound e p.num p.args) (form_of c) ≡ true) where

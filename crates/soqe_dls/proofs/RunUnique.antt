@@ -1,5 +1,5 @@
 -- A block has one answer: its formula has one list of cases, a case one tidy case, that one try, and that one value to show.
-use Rattle.std.proofs.Common.{◌≡◌, ℕ, suc, Bool, true, false, eqb, not, ◌||◌, ◌&&◌, List, [], ◌∷◌, map, refl, sym, ◌∙◌, ap, subst}
+use Rattle.std.proofs.Common.{◌≡◌, ℕ, suc, Bool, true, false, eqb, not, ◌||◌, List, [], ◌∷◌, refl, sym, ◌∙◌, ap, subst}
 use Rattle.std.specs.Bool.{MatchBool}
 use Rattle.soqe_term.specs.declared.term.Var.{Var}
 use Rattle.soqe_term.specs.Unused.{member}
@@ -7,56 +7,33 @@ use Rattle.soqe_form.specs.declared.form.Pred.{Pred}
 use Rattle.soqe_form.specs.declared.form.Pred.TheVariants.{Bound}
 use Rattle.soqe_form.specs.declared.form.PVar.{PVar}
 use Rattle.soqe_form.specs.declared.form.Form.{Form}
-use Rattle.soqe_form.specs.Free.{free}
-use Rattle.soqe_form.specs.FreeVars.{is_among}
-use Rattle.soqe_form.specs.Marks.{IsLeastWithout}
-use Rattle.soqe_form.specs.Mentions.{depth}
-use Rattle.soqe_form.specs.Substitution.{sub}
 use Rattle.soqe_form.specs.Tidy.{tidy}
-use Rattle.soqe_form.proofs.TidyNumbers.{least-one}
 use Rattle.soqe_norm.specs.declared.case_list.Case.{Case}
 use Rattle.soqe_norm.specs.Apart.{IsLeast, IsChoice, AreChoices, IsApart, binders, renumbered, taken_first}
 use Rattle.soqe_norm.specs.Cases.{cases_of}
 use Rattle.soqe_norm.specs.CasesLaws.{AreCases}
 use Rattle.soqe_norm.specs.Folds.{any_of, case_form}
+use Rattle.soqe_norm.proofs.Choosing.{one-least}
+use Rattle.soqe_norm.proofs.FoldedParts.{case-parts}
 use Rattle.soqe_ack.specs.declared.steps.DlsStep.{DlsStep}
 use Rattle.soqe_ack.specs.declared.steps.DlsStep.TheVariants as step
 use Rattle.soqe_ack.specs.declared.steps.Sign.{Sign}
 use Rattle.soqe_ack.specs.declared.steps.Sign.TheVariants.{Pos, Neg}
-use Rattle.soqe_ack.specs.Acked.{AreParameters}
 use Rattle.soqe_ack.specs.Signs.{is_pos}
-use Rattle.soqe_ack.specs.Tries.{IsTidyCase, IsTried, positive, negative, IsNotReached, IsShown, by_vars}
+use Rattle.soqe_ack.specs.Tries.{IsTidyCase, IsTried, positive, negative, IsNotReached, IsShown}
 use Rattle.soqe_ack.proofs.AckedDecided.{acked-one, not-both}
+use Rattle.soqe_ack.proofs.Shown.{one-shown}
 use Rattle.soqe_dls.specs.declared.elimination.DlsEnd.{DlsEnd}
 use Rattle.soqe_dls.specs.declared.elimination.DlsEnd.TheVariants as end
 use Rattle.soqe_dls.specs.Runs.{Outcome, Reached, NotReached, after, IsRun, no_more, reached, stops, EndsRun, IsAnswer}
-use Rattle.soqe_dls.proofs.FoldedForms.{case-parts}
 
--- ---- least numbers
-
-fails : (p : ℕ → Bool) (n : ℕ) → IsLeast p n → IsLeastWithout (λ m. not (p m)) n
-fails p n l = record { fails = ap not l.passes; below = λ k h. ap not (l.least k h) }
-
-one_least : (p : ℕ → Bool) (m n : ℕ) → IsLeast p m → IsLeast p n → m ≡ n
-one_least p m n h k = least-one (λ m. not (p m)) m n (fails p m h) (fails p n k)
-
-one-parameters : (used : ℕ → Bool) (sorts : List ℕ) (xs ys : List Var) → AreParameters used sorts xs → AreParameters used sorts ys → xs ≡ ys
-one-parameters used [] [] [] h k = refl
-one-parameters used [] [] (y ∷ ys) h k = absurd k
-one-parameters used [] (x ∷ xs) ys h k = absurd h
-one-parameters used (s ∷ sorts) [] ys h k = absurd h
-one-parameters used (s ∷ sorts) (x ∷ xs) [] h k = absurd k
-one-parameters used (s ∷ sorts) (x ∷ xs) (y ∷ ys) h k =
-    let n : x.num ≡ y.num = one_least (λ m. not (used m)) x.num y.num h.1 k.1 in
-    let s : x.sort ≡ y.sort = h.0 ∙ sym k.0 in
-    let more : xs ≡ ys = one-parameters (λ m. eqb m x.num || used m) sorts xs ys h.2 (subst (λ (a : ℕ). AreParameters (λ m. eqb m a || used m) sorts ys) (sym n) k.2) in
-    λ i. record { num = n i; sort = s i } ∷ more i
+-- ---- one list of cases
 
 one-choice : (standing : ℕ → Bool) (taken : ℕ → Bool) (b m n : ℕ) → IsChoice taken standing b m → IsChoice taken standing b n → m ≡ n
 one-choice standing taken b m n c d = choose (taken b) c d
   where
     choose : (t : Bool) → MatchBool t (IsLeast (λ k. not (taken k || standing k)) m) (m ≡ b) → MatchBool t (IsLeast (λ k. not (taken k || standing k)) n) (n ≡ b) → m ≡ n
-    choose true c d = one_least (λ k. not (taken k || standing k)) m n c d
+    choose true c d = one-least (λ k. not (taken k || standing k)) m n c d
     choose false c d = c ∙ sym d
 
 one-choices : (standing : ℕ → Bool) (taken : ℕ → Bool) (bs ms ns : List ℕ) → AreChoices taken standing bs ms → AreChoices taken standing bs ns → ms ≡ ns
@@ -69,8 +46,6 @@ one-choices standing taken (b ∷ bs) (m ∷ ms) (n ∷ ns) c d =
     let e : m ≡ n = one-choice standing taken b m n c.0 d.0 in
     let more : ms ≡ ns = one-choices standing (λ k. eqb k m || taken k) bs ms ns c.1 (subst (λ (a : ℕ). AreChoices (λ k. eqb k a || taken k) standing bs ns) (sym e) d.1) in
     λ i. e i ∷ more i
-
--- ---- one list of cases
 
 one-apart : (keep : List ℕ) (f g h : Form) → IsApart keep f g → IsApart keep f h → g ≡ h
 one-apart keep f g h a b =
@@ -103,11 +78,6 @@ module _ (p : PVar) (keep : List ℕ) (vars : List Var) (fs : List Form) where
   pub tried-not-lost : {s : Bool} {xs : List Var} {v f : Form} → IsTried p keep vars fs s xs v f → IsNotReached p fs → ⊥
   tried-not-lost {xs = xs} {v = v} {f = f} (positive a) n = not-both true p keep vars fs xs v f a n.positive
   tried-not-lost {xs = xs} {v = v} {f = f} (negative _ a) n = not-both false p keep vars fs xs v f a n.negative
-
-one-shown : (keep : List ℕ) (xs : List Var) (v : Form) (ys zs : List Var) (f g : Form) → IsShown keep xs v ys f → IsShown keep xs v zs g → (ys ≡ zs) × (f ≡ g)
-one-shown keep xs v ys zs f g a b =
-    let e : ys ≡ zs = one-parameters (λ n. member n keep || (free n v && not (is_among xs n))) (map (λ x. x.sort) xs) ys zs a.numbers b.numbers in
-    (e, a.shown ∙ ap (λ ws. tidy keep (sub (depth v) (by_vars xs ws) v)) e ∙ sym b.shown)
 
 -- ---- one run
 

@@ -1,21 +1,25 @@
 -- The steps that are written so far lead to a run of all cases with whatever steps follow from the next case on.
-use Rattle.std.proofs.Common.{◌≡◌, ℕ, suc, Bool, List, [], ◌∷◌, ◌++◌, length, reverse, Option, Some, None, refl, sym, ◌∙◌, ap, subst, append_assoc, arith}
+use Rattle.std.proofs.Common.{◌≡◌, ℕ, suc, Bool, false, List, [], ◌∷◌, ◌++◌, length, reverse, Option, Some, None, refl, sym, ◌∙◌, ap, subst, append_assoc, arith}
+use Rattle.std.specs.Option.{unwrap_or}
 use Rattle.std.proofs.lemmas.List.{append-nil}
 use Rattle.soqe_term.specs.declared.term.Var.{Var}
 use Rattle.soqe_form.specs.declared.form.PVar.{PVar}
 use Rattle.soqe_form.specs.declared.form.Form.{Form}
 use Rattle.soqe_norm.specs.declared.case_list.Case.{Case}
 use Rattle.soqe_form.specs.declared.form.Pred.TheVariants.{Bound}
+use Rattle.soqe_form.specs.Constants.{constant}
 use Rattle.soqe_form.specs.Tidy.{tidy}
-use Rattle.soqe_norm.specs.Folds.{any_of, case_form}
+use Rattle.soqe_norm.specs.Folds.{case_form}
+use Rattle.soqe_norm.specs.Joins.{with_or, or_onto}
+use Rattle.soqe_norm.proofs.Joins.{or_onto-push, joined_any}
 use Rattle.soqe_ack.specs.declared.steps.DlsStep.{DlsStep}
 use Rattle.soqe_ack.specs.declared.steps.DlsStep.TheVariants as step
 use Rattle.soqe_ack.specs.GuardLaws.{AreDistinct}
-use Rattle.soqe_ack.specs.Tries.{IsTried, positive, negative}
+use Rattle.soqe_ack.specs.Tries.{IsTried}
+use Rattle.soqe_ack.proofs.Applies.{acked-of}
 use Rattle.soqe_ack.proofs.ParameterNumbers.{parameters-distinct}
-use Rattle.soqe_dls.specs.Parts.{joined, joined_of, joined_or_false, WritesReached, WritesLost}
+use Rattle.soqe_dls.specs.Parts.{WritesReached, WritesLost}
 use Rattle.soqe_dls.specs.Runs.{Outcome, Reached, NotReached, after, IsRun, no_more, reached, stops, IsDone}
-use Rattle.soqe_dls.proofs.FoldedForms.{or_after-push}
 
 -- the outcome with formulas in front
 abbrev pub after_all : List Form → Outcome → Outcome
@@ -38,7 +42,7 @@ after_all-not (f ∷ fs) n = ap (after f) (after_all-not fs n)
 pub record Leads (keep : List ℕ) (p : PVar) (cs left : List Case) (number : ℕ) (steps : List DlsStep) (so_far : Option Form) : Type 0 where
   pub forms : List Form
   pub leads : (more : List DlsStep) (o : Outcome) → IsRun keep p number left more o → IsRun keep p 0 cs (steps ++ more) (after_all forms o)
-  pub joins : so_far ≡ joined_of forms
+  pub joins : so_far ≡ or_onto None forms
 
 pub leads-none : (keep : List ℕ) (p : PVar) (cs left : List Case) (number : ℕ) (steps : List DlsStep) → left ≡ cs → number ≡ 0 → steps ≡ [] → Leads keep p cs left number steps None
 leads-none keep p cs left number steps l n s = record {
@@ -49,14 +53,6 @@ leads-none keep p cs left number steps l n s = record {
   joins = refl;
 }
 
-joined-push : (fs : List Form) (f : Form) → Some (joined (joined_of fs) f) ≡ joined_of (fs ++ f ∷ [])
-joined-push [] f = refl
-joined-push (g ∷ fs) f = ap Some (sym (or_after-push g fs f))
-
-joined-any : (fs : List Form) → joined_or_false (joined_of fs) ≡ any_of fs
-joined-any [] = refl
-joined-any (f ∷ fs) = refl
-
 pub none-left : {A : Type 0} (xs : List A) → length xs ≡ 0 → reverse xs ≡ []
 none-left [] h = refl
 none-left (x ∷ xs) h = absurd (omega (arith, h))
@@ -65,17 +61,17 @@ run-as : (keep : List ℕ) (p : PVar) (n : ℕ) (cs : List Case) (a b : List Dls
 run-as keep p n cs a b o u e h r = subst (λ (s : List DlsStep). IsRun keep p n cs s u) e (subst (λ (x : Outcome). IsRun keep p n cs a x) h r)
 
 module _ (keep : List ℕ) (p : PVar) (cs left : List Case) (number : ℕ) (old : List DlsStep) (so_far : Option Form) (lead : Leads keep p cs left number old so_far) where
-  pub leads-done : left ≡ [] → IsDone keep p cs old (joined_or_false so_far)
+  pub leads-done : left ≡ [] → IsDone keep p cs old (unwrap_or so_far (constant false))
   leads-done l =
       let rest : IsRun keep p number left [] (Reached []) = subst (λ (ds : List Case). IsRun keep p number ds [] (Reached [])) (sym l) no_more in
       record {
         forms = lead.forms;
         run = run-as keep p 0 cs (old ++ []) old (after_all lead.forms (Reached [])) (Reached lead.forms) (append-nil old) (after_all-reached lead.forms) (lead.leads [] (Reached []) rest);
-        is = ap joined_or_false lead.joins ∙ joined-any lead.forms;
+        is = joined_any lead.forms so_far lead.joins;
       }
 
   module _ (c : Case) (rest : List Case) (at : left ≡ c ∷ rest) (new : List DlsStep) (num : ℕ) (num_is : num ≡ suc number) where
-    pub leads-reached : (form : Form) → WritesReached keep p num c old new form → Leads keep p cs rest num new (Some (joined so_far form))
+    pub leads-reached : (form : Form) → WritesReached keep p num c old new form → Leads keep p cs rest num new (Some (with_or so_far form))
     leads-reached form w = record {
       forms = lead.forms ++ form ∷ [];
       leads = λ more o r.
@@ -91,7 +87,7 @@ module _ (keep : List ℕ) (p : PVar) (cs left : List Case) (number : ℕ) (old 
           ∙ ap (λ l. l ++ more) (sym w.steps))
           (ap (λ h. after_all lead.forms (after h o)) (sym w.is) ∙ sym (after_all-push lead.forms form o))
           (lead.leads (step.Case (suc number) f ∷ ack ∷ step.Gives g ∷ more) (after g o) from);
-      joins = ap (λ o. Some (joined o form)) lead.joins ∙ joined-push lead.forms form;
+      joins = ap (λ o. Some (with_or o form)) lead.joins ∙ sym (or_onto-push None lead.forms form);
     }
 
     pub leads-lost : WritesLost keep p num c old new → IsRun keep p 0 cs new (NotReached num)
@@ -108,5 +104,4 @@ module _ (keep : List ℕ) (p : PVar) (cs left : List Case) (number : ℕ) (old 
 -- the parameters of a try are distinct
 pub tried-distinct : {p : PVar} {keep : List ℕ} {vars : List Var} {fs : List Form} {s : Bool} {params : List Var} {value form : Form}
     → IsTried p keep vars fs s params value form → AreDistinct params
-tried-distinct {p = p} {params = params} (positive a) = parameters-distinct _ p.args params a.parameters
-tried-distinct {p = p} {params = params} (negative _ a) = parameters-distinct _ p.args params a.parameters
+tried-distinct {p = p} {params = params} t = parameters-distinct _ p.args params (acked-of t).parameters

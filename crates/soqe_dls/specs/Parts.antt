@@ -3,10 +3,10 @@ use Rattle.std.specs.Prelude.{ℕ, ◌≡◌, Bool, true, false, List, [], ◌�
 use Rattle.soqe_term.specs.declared.term.Var.{Var}
 use Rattle.soqe_form.specs.declared.form.Pred.TheVariants.{Bound}
 use Rattle.soqe_form.specs.declared.form.PVar.{PVar}
-use Rattle.soqe_form.specs.declared.form.Form.{Form, False, And', Ex', Or, end_of-Form as end, more_of-Form as one}
+use Rattle.soqe_form.specs.declared.form.Form.{Form, And', Ex', end_of-Form as end, more_of-Form as one}
 use Rattle.soqe_form.specs.Tidy.{tidy}
 use Rattle.soqe_norm.specs.declared.case_list.Case.{Case}
-use Rattle.soqe_norm.specs.Folds.{any_of, all_of, exists_in, case_form}
+use Rattle.soqe_norm.specs.Folds.{all_of, exists_in, case_form}
 use Rattle.soqe_ack.specs.declared.steps.DlsStep.{DlsStep}
 use Rattle.soqe_ack.specs.declared.steps.DlsStep.TheVariants as step
 use Rattle.soqe_ack.specs.declared.steps.Sign.{Sign}
@@ -44,21 +44,6 @@ pub record IsOfCase (variables conjuncts : ℕ) (f : Form) : Type 0 where
   pub is : f ≡ case_form vars conj
   pub as_many_vars : length vars ≡ variables
   pub as_many : length conj ≡ conjuncts
-
--- the formulas joined by `|`, where there are any
-abbrev pub joined_of : List Form → Option Form
-joined_of [] = None
-joined_of (f ∷ fs) = Some (any_of (f ∷ fs))
-
--- one more formula joined to those so far
-abbrev pub joined : Option Form → Form → Form
-joined None f = f
-joined (Some g) f = Or g f
-
--- the formula so far, false where there is none
-abbrev pub joined_or_false : Option Form → Form
-joined_or_false None = False
-joined_or_false (Some f) = f
 
 -- the steps grow by the value of a try and its formula
 pub record WritesTry (keep : List ℕ) (p : PVar) (tried : Tried) (old new : List DlsStep) (form : Form) : Type 0 where

@@ -1,12 +1,11 @@
 //! Elimination of a block's predicate, case by case.
 
 ghost use Rattle.std.specs.Prelude.{◌≡◌, ◌+◌, ◌<◌, IfOk};
-ghost use Rattle.soqe_dls.specs.Parts.{joined_or_false, WritesCase, WritesTry};
+ghost use Rattle.soqe_dls.specs.Parts.{WritesCase, WritesTry};
 ghost use Rattle.soqe_dls.specs.RunLaws.{EndsTrue};
 ghost use Rattle.soqe_dls.specs.Runs.{EndsRun, IsAnswer};
 ghost use Rattle.soqe_ack.specs.GuardLaws.{AreDistinct};
 
-use crate::folding::join;
 use crate::shown_value::shown;
 use crate::steps::DlsSteps;
 use crate::tidy_case::tidy_case;
@@ -14,6 +13,7 @@ use soqe_ack::{DlsStep, Tried, first_try};
 use soqe_form::{Form, PVar, Pred, copy_boxed, tidy};
 use soqe_norm::case_list::{Case, CaseList};
 use soqe_norm::cases::cases;
+use soqe_norm::folding::{case_form, made_or, or_next};
 use soqe_term::{Mem, Nums};
 use sqlite_items::Boxed;
 use std::alloc::Global;
@@ -51,7 +51,10 @@ fn run(alloc: Global, cases: CaseList, pred: &PVar, keep: &Nums) -> Mem<DlsEnd>
     while let Some(case) = left.pop() {
         let number = (count - left.len()) as u64;
         match write_case(alloc, &mut steps, number, case, pred, keep)? {
-            Some(form) => so_far = Some(join(alloc, so_far, form)?),
+            Some(form) => {
+                let joined = or_next(alloc, so_far, form)?;
+                so_far = Some(joined);
+            }
             None => {
                 return Ok(DlsEnd::NotReached {
                     steps,
@@ -60,18 +63,8 @@ fn run(alloc: Global, cases: CaseList, pred: &PVar, keep: &Nums) -> Mem<DlsEnd>
             }
         }
     }
-    let form = all_joined(alloc, so_far)?;
+    let form = made_or(alloc, so_far, false)?;
     Ok(DlsEnd::Done { steps, form })
-}
-
-/// What the cases come to, false where there is none.
-fn all_joined(alloc: Global, so_far: Option<Boxed<Form>>) -> Mem<Boxed<Form>>
-    ensures { IfOk result (λ r. r ≡ joined_or_false so_far) }
-{
-    match so_far {
-        None => Boxed::new(alloc, Form::False),
-        Some(form) => Ok(form),
-    }
 }
 
 /// Adds the steps of a case with its number. The formula is that of the case without the predicate, tidy; there is none where no
@@ -86,12 +79,11 @@ fn write_case(
 ) -> Mem<Option<Boxed<Form>>>
     ensures { IfOk result (λ form. WritesCase keep.now pred.now num case steps.old steps.new form) }
 {
-    let tidied = tidy_case(alloc, case, keep)?;
-    steps.push(DlsStep::Case {
-        num,
-        form: tidied.form,
-    })?;
-    match first_try(alloc, &tidied.case, pred, keep)? {
+    let case = tidy_case(alloc, case, keep)?;
+    let tried = first_try(alloc, &case, pred, keep)?;
+    let form = case_form(alloc, case)?;
+    steps.push(DlsStep::Case { num, form })?;
+    match tried {
         Some(tried) => {
             let form = write_try(alloc, steps, tried, pred, keep)?;
             Ok(Some(form))
@@ -111,11 +103,17 @@ fn write_try(
     requires { AreDistinct tried.params }
     ensures { IfOk result (λ form. WritesTry keep.now pred.now tried steps.old steps.new form) }
 {
-    let shown = shown(alloc, &tried.params, tried.value.get(), keep)?;
-    let form = tidy(alloc, tried.form.get(), keep)?;
+    let Tried {
+        sign,
+        params,
+        value,
+        form,
+    } = tried;
+    let shown = shown(alloc, &params, value.get(), keep)?;
+    let form = tidy(alloc, form, keep)?;
     let gives = copy_boxed(alloc, &form)?;
     steps.push(DlsStep::Ack {
-        sign: tried.sign,
+        sign,
         pred: Pred::Bound(pred.num),
         params: shown.params,
         value: shown.value,

@@ -6,10 +6,10 @@
 #![tactic(auto)]
 
 mod elimination;
-mod folding;
 pub mod laws;
 mod shown_value;
 mod steps;
+mod taking;
 #[cfg(test)]
 mod tests;
 mod tidy_case;

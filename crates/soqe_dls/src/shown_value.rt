@@ -32,7 +32,7 @@ pub(crate) fn shown(alloc: Global, params: &Vars, value: &Form, keep: &Nums) -> 
     let new = least_numbers(alloc, params.as_slice(), &mut used)?;
     let binding = bind_each(alloc, params.as_slice(), new.as_slice())?;
     let replaced = subst_all(alloc, value, &binding)?;
-    let tidied = tidy(alloc, replaced.get(), keep)?;
+    let tidied = tidy(alloc, replaced, keep)?;
     Ok(ShownValue {
         params: new,
         value: tidied,

@@ -117,8 +117,8 @@ fn show(out: &mut Vec<u8>, form: &Form) -> Mem<()> {
         Form::False => put(out, b'f'),
         Form::Equal(s, t) => {
             put(out, b'=')?;
-            show_term(out, s)?;
-            show_term(out, t)
+            show_term(out, s.get())?;
+            show_term(out, t.get())
         }
         Form::Atom(pred, terms) => {
             put(out, sign_of(pred))?;

@@ -5,39 +5,24 @@ ghost use Rattle.soqe_norm.specs.Folds.{case_form as form_of};
 ghost use Rattle.soqe_ack.specs.Tries.{IsTidyCase};
 ghost use Rattle.soqe_dls.specs.Parts.{IsOfCase};
 
-use crate::folding::{all, exist, take_conjuncts, take_vars};
-use soqe_form::{Form, copy_boxed, tidy};
+use crate::taking::{take_conjuncts, take_vars};
+use soqe_form::{Form, tidy};
 use soqe_norm::case_list::Case;
+use soqe_norm::folding::case_form;
 use soqe_term::{Mem, Nums};
 use sqlite_items::Boxed;
 use std::alloc::Global;
 
-/// A case and its formula.
-#[derive(Drop)]
-pub(crate) struct TidyCase {
-    pub case: Case,
-    pub form: Boxed<Form>,
-}
-
-/// The case whose formula is tidy, and that formula. It takes the time and memory of two copies of the case and of `tidy`, and
-/// recurses as deep as its formula.
-pub(crate) fn tidy_case(alloc: Global, case: Case, keep: &Nums) -> Mem<TidyCase>
-    ensures tidied { IfOk result (λ r. IsTidyCase keep.now case.vars case.conj r.case.vars r.case.conj) }
-    ensures form { IfOk result (λ r. r.form ≡ form_of r.case.vars r.case.conj) }
+/// The case whose formula is tidy. Its parts are moved: it takes the time and memory of `tidy`, and recurses as deep as its
+/// formula.
+pub(crate) fn tidy_case(alloc: Global, case: Case, keep: &Nums) -> Mem<Case>
+    ensures { IfOk result (λ r. IsTidyCase keep.now case.vars case.conj r.vars r.conj) }
 {
-    let form = case_form(alloc, &case)?;
-    let form = tidy(alloc, form.get(), keep)?;
-    let copy = copy_boxed(alloc, &form)?;
-    let case = take_case(alloc, copy, case.vars.as_slice().len(), case.conj.len())?;
-    Ok(TidyCase { case, form })
-}
-
-/// The formula of a case.
-fn case_form(alloc: Global, case: &Case) -> Mem<Boxed<Form>>
-    ensures { IfOk result (λ r. r ≡ form_of case.now.vars case.now.conj) }
-{
-    let body = all(alloc, case.conj.as_slice())?;
-    exist(alloc, case.vars.as_slice(), body)
+    let variables = case.vars.as_slice().len();
+    let conjuncts = case.conj.len();
+    let form = case_form(alloc, case)?;
+    let form = tidy(alloc, form, keep)?;
+    take_case(alloc, form, variables, conjuncts)
 }
 
 /// The case of a formula, with so many variables and conjuncts. Its parts are moved.

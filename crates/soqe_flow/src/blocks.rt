@@ -60,6 +60,8 @@ fn write_start(alloc: Global, lines: &mut Lines, goal: &Form, keep: &Nums) -> Me
     ensures lines { IfOk result (λ f. lines.new ≡ lines.old ++ Start (simplified_of keep.now goal.now) ∷ []) }
     ensures stands { IfOk result (λ f. f ≡ simplified_of keep.now goal.now) }
 {
+    let goal = goal.copy(alloc)?;
+    let goal = Boxed::new(alloc, goal)?;
     let now = simplified(alloc, goal, keep)?;
     let line = copy_boxed(alloc, &now)?;
     lines.push(Line::Start(line))?;

@@ -52,7 +52,7 @@ fn normal(alloc: Global, block: &Block, keep: &Nums) -> Mem<Boxed<Form>>
     ensures { IfOk result (λ f. f ≡ normal_of keep.now block.now) }
 {
     let form = nnf(alloc, block.body.get(), !block.exists)?;
-    tidy(alloc, form.get(), keep)
+    tidy(alloc, form, keep)
 }
 
 /// What takes the block's place where its cases have come to the answer.
@@ -60,7 +60,7 @@ fn closed_by(alloc: Global, block: &Block, answer: Boxed<Form>, keep: &Nums) -> 
     ensures { IfOk result (λ f. f ≡ closed_of keep.now block.now answer) }
 {
     let form = turned(alloc, block, answer)?;
-    simplified(alloc, form.get(), keep)
+    simplified(alloc, form, keep)
 }
 
 /// The answer itself for an existential quantifier, the normal form of its negation for a universal one.

@@ -35,7 +35,7 @@ pub(crate) fn write_close(
 {
     let part = copy_boxed(alloc, &closed)?;
     let next = put_in(alloc, form, block.place.as_slice(), part)?;
-    let next = simplified(alloc, next.get(), keep)?;
+    let next = simplified(alloc, next, keep)?;
     lines.push(Line::Close(closed))?;
     Ok(next)
 }

@@ -11,7 +11,7 @@ use crate::blocks::BlockEnd;
 use crate::closing::{block_line, write_close};
 use crate::simplifying::simplified;
 use soqe_deriv::{Line, Lines, Method, Stop};
-use soqe_form::{Block, Form, Pred, tidy};
+use soqe_form::{Block, Form, Pred, copy_boxed, tidy};
 use soqe_norm::signs::first_signs;
 use soqe_norm::valued::{value_for, valued};
 use soqe_term::{Mem, Nums};
@@ -54,7 +54,8 @@ fn write_sign(
     ensures stands { IfOk result (λ f. f ≡ after_sign keep.now form block.now value) }
 {
     let due = replaced(alloc, block, value, keep)?;
-    let closed = simplified(alloc, due.get(), keep)?;
+    let copy = copy_boxed(alloc, &due)?;
+    let closed = simplified(alloc, copy, keep)?;
     lines.push(block_line(Method::Sign, block))?;
     lines.push(Line::Replace { value, form: due })?;
     write_close(alloc, lines, form, block, closed, keep)
@@ -65,7 +66,7 @@ fn replaced(alloc: Global, block: &Block, value: bool, keep: &Nums) -> Mem<Boxed
     ensures { IfOk result (λ f. f ≡ replaced_of keep.now block.now value) }
 {
     let form = valued(alloc, block.body.get(), block.pred.num, value)?;
-    tidy(alloc, form.get(), keep)
+    tidy(alloc, form, keep)
 }
 
 /// The last lines of a block that has both signs, and its stop.

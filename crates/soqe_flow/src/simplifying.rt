@@ -33,10 +33,10 @@ fn numbers(alloc: Global, vars: &[Var]) -> Mem<Nums>
     Ok(nums)
 }
 
-/// The formula made simple, then tidy.
-pub(crate) fn simplified(alloc: Global, form: &Form, keep: &Nums) -> Mem<Boxed<Form>>
-    ensures { IfOk result (λ r. r ≡ simplified_of keep.now form.now) }
+/// The formula made simple, then tidy. It is moved.
+pub(crate) fn simplified(alloc: Global, form: Boxed<Form>, keep: &Nums) -> Mem<Boxed<Form>>
+    ensures { IfOk result (λ r. r ≡ simplified_of keep.now form) }
 {
     let simple = simplify(alloc, form)?;
-    tidy(alloc, simple.get(), keep)
+    tidy(alloc, simple, keep)
 }

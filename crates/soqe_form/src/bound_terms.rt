@@ -30,7 +30,7 @@ fn bind_var(alloc: Global, y: Var, binding: &Binding, hidden: &Marks) -> Mem<Ter
 
 /// The term with its variables replaced, but for the hidden ones.
 #[cycle(bind)]
-pub fn bind_term(alloc: Global, term: &Term, binding: &Binding, hidden: &Marks) -> Mem<Term>
+fn bind_term(alloc: Global, term: &Term, binding: &Binding, hidden: &Marks) -> Mem<Term>
     ensures { IfOk result (λ r. r ≡ bound_in (visible (marked hidden.now) binding.now) term.now) }
 {
     match term {
@@ -40,6 +40,19 @@ pub fn bind_term(alloc: Global, term: &Term, binding: &Binding, hidden: &Marks) 
             Ok(Term::App(*symbol, *sort, args))
         }
     }
+}
+
+/// The boxed form of `bind_term`.
+pub fn bind_boxed(
+    alloc: Global,
+    term: &Boxed<Term>,
+    binding: &Binding,
+    hidden: &Marks,
+) -> Mem<Boxed<Term>>
+    ensures { IfOk result (λ r. r ≡ bound_in (visible (marked hidden.now) binding.now) term.now) }
+{
+    let term = bind_term(alloc, term.get(), binding, hidden)?;
+    Boxed::new(alloc, term)
 }
 
 /// The terms with their variables replaced, but for the hidden ones.

@@ -1,7 +1,7 @@
 //! Formulas, held by boxes, and their copies.
 ghost use Rattle.std.specs.Prelude.{◌≡◌, IfOk};
 
-use soqe_term::{Mem, Nums, Sorts, Term, Terms, Var};
+use soqe_term::{Mem, Nums, Sorts, Term, Terms, Var, copy_term};
 use sqlite_items::Boxed;
 use std::alloc::Global;
 
@@ -37,7 +37,7 @@ impl PVar {
 pub enum Form {
     True,
     False,
-    Equal(Term, Term),
+    Equal(Boxed<Term>, Boxed<Term>),
     Atom(Pred, Terms),
     Not(Boxed<Form>),
     And(Boxed<Form>, Boxed<Form>),
@@ -70,8 +70,8 @@ impl Form {
             Form::True => Ok(Form::True),
             Form::False => Ok(Form::False),
             Form::Equal(s, t) => {
-                let s = s.copy(alloc)?;
-                let t = t.copy(alloc)?;
+                let s = copy_term(alloc, s)?;
+                let t = copy_term(alloc, t)?;
                 Ok(Form::Equal(s, t))
             }
             Form::Atom(p, ts) => {

@@ -112,8 +112,8 @@ fn list(
     match form {
         Form::True | Form::False => Ok(()),
         Form::Equal(s, t) => {
-            list_term(s, outer, by, bound, nums)?;
-            list_term(t, outer, by, bound, nums)?;
+            list_term(s.get(), outer, by, bound, nums)?;
+            list_term(t.get(), outer, by, bound, nums)?;
             Ok(())
         }
         Form::Atom(_, ts) => list_terms(ts, outer, by, bound, nums),

@@ -76,8 +76,8 @@ fn collect(form: &Form, collected: &mut Collected) -> Mem<()>
     match form {
         Form::True | Form::False => Ok(()),
         Form::Equal(s, t) => {
-            collect_term(s, collected)?;
-            collect_term(t, collected)?;
+            collect_term(s.get(), collected)?;
+            collect_term(t.get(), collected)?;
             Ok(())
         }
         Form::Atom(_, ts) => collect_terms(ts, collected),

@@ -100,6 +100,14 @@ impl Forms {
         self.items.as_slice()
     }
 
+    /// The formulas themselves. It takes no memory.
+    pub fn into_vec(self) -> Vec<Boxed<Form>>
+        ensures { result.items ≡ self }
+    {
+        let Forms { items } = self;
+        items
+    }
+
     /// Adds a formula at the end. After want of memory nothing has changed.
     pub fn push(&mut self, form: Boxed<Form>) -> Mem<()>
         ensures ok { OnOk result (self.new ≡ self.old ++ form ∷ []) }

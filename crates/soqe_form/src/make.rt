@@ -1,11 +1,11 @@
-//! Formulas made from boxed parts. Each takes one allocation.
+//! Formulas made from boxed parts, each by one allocation, and equations, by three.
 
 ghost use Rattle.std.specs.Prelude.{◌≡◌, IfOk};
 ghost use Rattle.soqe_form.specs.Constants.{constant};
-ghost use Rattle.soqe_form.specs.declared.form.Form.{Not, And, Or, Imp, Iff, All, Ex, All2, Ex2};
+ghost use Rattle.soqe_form.specs.declared.form.Form.{Equal, Not, And, Or, Imp, Iff, All, Ex, All2, Ex2};
 
 use crate::form::{Form, PVar};
-use soqe_term::{Mem, Var};
+use soqe_term::{Mem, Term, Var};
 use sqlite_items::Boxed;
 use std::alloc::Global;
 
@@ -18,6 +18,14 @@ pub fn constant(alloc: Global, value: bool) -> Mem<Boxed<Form>>
     } else {
         Boxed::new(alloc, Form::False)
     }
+}
+
+pub fn equation(alloc: Global, left: Term, right: Term) -> Mem<Boxed<Form>>
+    ensures { IfOk result (λ r. r ≡ Equal left right) }
+{
+    let left = Boxed::new(alloc, left)?;
+    let right = Boxed::new(alloc, right)?;
+    Boxed::new(alloc, Form::Equal(left, right))
 }
 
 pub fn negation(alloc: Global, f: Boxed<Form>) -> Mem<Boxed<Form>>

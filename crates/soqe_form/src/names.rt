@@ -18,7 +18,7 @@ pub fn is_free(form: &Form, num: u64) -> bool
 {
     match form {
         Form::True | Form::False => false,
-        Form::Equal(s, t) => occurs(s, num) || occurs(t, num),
+        Form::Equal(s, t) => occurs(s.get(), num) || occurs(t.get(), num),
         Form::Atom(_, ts) => occurs_in_any(ts, num),
         Form::And(f, g) | Form::Or(f, g) | Form::Imp(f, g) | Form::Iff(f, g) => is_free(
             f.get(),
@@ -69,8 +69,8 @@ pub fn mark_form(form: &Form, marks: &mut Marks) -> Mem<()>
     match form {
         Form::True | Form::False => Ok(()),
         Form::Equal(s, t) => {
-            mark_term(s, marks)?;
-            mark_term(t, marks)?;
+            mark_term(s.get(), marks)?;
+            mark_term(t.get(), marks)?;
             Ok(())
         }
         Form::Atom(_, ts) => {

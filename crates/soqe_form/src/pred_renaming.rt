@@ -5,7 +5,7 @@ ghost use Rattle.std.specs.Prelude.{◌≡◌, IfOk, cond, eqb};
 ghost use Rattle.soqe_form.specs.PredRenaming.{exchanged, renamed_pred};
 
 use crate::form::{Form, PVar, Pred, copy_boxed};
-use soqe_term::Mem;
+use soqe_term::{Mem, copy_term};
 use sqlite_items::Boxed;
 use std::alloc::Global;
 
@@ -28,8 +28,8 @@ pub fn rename_pred(alloc: Global, form: &Form, m: u64, n: u64) -> Mem<Form>
         Form::True => Ok(Form::True),
         Form::False => Ok(Form::False),
         Form::Equal(s, t) => {
-            let s = s.copy(alloc)?;
-            let t = t.copy(alloc)?;
+            let s = copy_term(alloc, s)?;
+            let t = copy_term(alloc, t)?;
             Ok(Form::Equal(s, t))
         }
         Form::Atom(p, ts) => {

@@ -2,6 +2,8 @@
 #![tactic(auto, unfolding(crate::specs::Boxes::boxes))]
 
 ghost use Rattle.std.specs.Prelude.{◌≡◌, IfOk, cond, eqb};
+ghost use Rattle.soqe_term.specs.declared.term.Term.{Var as var};
+ghost use Rattle.soqe_term.specs.Subst.{replaced};
 ghost use Rattle.soqe_form.specs.Substitution.{renamed};
 
 use crate::form::{Form, copy_boxed};
@@ -18,8 +20,8 @@ pub fn rename(alloc: Global, form: &Form, y: u64, z: Var) -> Mem<Form>
         Form::True => Ok(Form::True),
         Form::False => Ok(Form::False),
         Form::Equal(s, t) => {
-            let s = replace(alloc, s, y, &Term::Var(z))?;
-            let t = replace(alloc, t, y, &Term::Var(z))?;
+            let s = rename_term(alloc, s, y, z)?;
+            let t = rename_term(alloc, t, y, z)?;
             Ok(Form::Equal(s, t))
         }
         Form::Atom(p, ts) => {
@@ -69,6 +71,14 @@ pub fn rename(alloc: Global, form: &Form, y: u64, z: Var) -> Mem<Form>
             Ok(Form::Ex2(p, f))
         }
     }
+}
+
+/// The term with the variable z for each occurrence of the variable with the number y.
+fn rename_term(alloc: Global, term: &Boxed<Term>, y: u64, z: Var) -> Mem<Boxed<Term>>
+    ensures { IfOk result (λ r. r ≡ replaced y (var z) term.now) }
+{
+    let term = replace(alloc, term.get(), y, &Term::Var(z))?;
+    Boxed::new(alloc, term)
 }
 
 /// The boxed form of `rename`.

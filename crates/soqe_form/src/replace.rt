@@ -5,7 +5,7 @@ ghost use Rattle.std.specs.Prelude.{◌≡◌, ◌∷◌, List, ℕ, IfOk, Match
 ghost use Rattle.soqe_form.specs.Places.{part_at, put_at, replaced};
 
 use crate::form::{Form, copy_boxed};
-use soqe_term::{Mem, Nums};
+use soqe_term::{Mem, Nums, copy_term};
 use sqlite_items::Boxed;
 use std::alloc::Global;
 
@@ -76,8 +76,8 @@ fn put_below(alloc: Global, form: &Form, child: u64, rest: &[u64], by: &Form) ->
         Form::True => Ok(Form::True),
         Form::False => Ok(Form::False),
         Form::Equal(s, t) => {
-            let s = s.copy(alloc)?;
-            let t = t.copy(alloc)?;
+            let s = copy_term(alloc, s)?;
+            let t = copy_term(alloc, t)?;
             Ok(Form::Equal(s, t))
         }
         Form::Atom(p, ts) => {

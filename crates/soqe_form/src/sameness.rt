@@ -119,7 +119,8 @@ fn same_in(a: &Form, b: &Form, vars: &Pairs, preds: &Pairs) -> bool
             _ => false,
         },
         Form::Equal(s, t) => match b {
-            Form::Equal(u, v) => same_term(s, u, &*vars) && same_term(t, v, &*vars),
+            Form::Equal(u, v) => same_term(s.get(), u.get(), &*vars)
+                && same_term(t.get(), v.get(), &*vars),
             _ => false,
         },
         Form::Atom(p, ts) => match b {

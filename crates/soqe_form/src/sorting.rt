@@ -165,9 +165,9 @@ fn is_sorted(form: &Form, outside: &Outside, scope: &Scope) -> bool
     match form {
         Form::True | Form::False => true,
         Form::Equal(s, t) => {
-            is_sorted_term(s, &*outside, &*scope)
-                && is_sorted_term(t, &*outside, &*scope)
-                && s.own_sort() == t.own_sort()
+            is_sorted_term(s.get(), &*outside, &*scope)
+                && is_sorted_term(t.get(), &*outside, &*scope)
+                && s.get().own_sort() == t.get().own_sort()
         }
         Form::Atom(p, ts) => match pred_sorts(*p, &*outside, &*scope) {
             Some(sorts) => are_sorted_terms(ts, sorts.as_slice(), &*outside, &*scope),

@@ -8,7 +8,7 @@ ghost use Rattle.soqe_form.specs.Substitution.{sub};
 ghost use Rattle.soqe_form.specs.IsSub.{single, HasTruthOfSub, HasTruthOfSubst, SubKeepsSorts, SubstKeepsSorts};
 ghost use Rattle.soqe_form.specs.Substitutes.{Substitutes, SubstitutesBelow, SubstitutesBody};
 
-use crate::bound_terms::{bind_term, bind_terms, catches, fresh};
+use crate::bound_terms::{bind_boxed, bind_terms, catches, fresh};
 use crate::form::Form;
 use crate::marks::Marks;
 use crate::renaming::rename;
@@ -55,8 +55,8 @@ fn substitute(alloc: Global, form: &Form, binding: &Binding, hidden: &mut Marks)
         Form::True => Ok(Form::True),
         Form::False => Ok(Form::False),
         Form::Equal(s, t) => {
-            let s = bind_term(alloc, s, binding, hidden)?;
-            let t = bind_term(alloc, t, binding, hidden)?;
+            let s = bind_boxed(alloc, s, binding, hidden)?;
+            let t = bind_boxed(alloc, t, binding, hidden)?;
             Ok(Form::Equal(s, t))
         }
         Form::Atom(p, ts) => {

@@ -67,10 +67,31 @@ fn falsity(alloc: Global) -> Mem<Boxed<Form>> {
     Boxed::new(alloc, Form::False)
 }
 
+/// The equation of two variables of sort 0.
+fn equation(alloc: Global, m: u64, n: u64) -> Mem<Boxed<Form>> {
+    let left = Boxed::new(alloc, Term::Var(Var { num: m, sort: 0 }))?;
+    let right = Boxed::new(alloc, Term::Var(Var { num: n, sort: 0 }))?;
+    Boxed::new(alloc, Form::Equal(left, right))
+}
+
+fn number(term: &Term) -> Option<u64> {
+    match term {
+        Term::Var(x) => Some(x.num),
+        _ => None,
+    }
+}
+
+/// The numbers of the two variables of such an equation.
+fn sides(form: &Form) -> Option<(u64, u64)> {
+    match form {
+        Form::Equal(s, t) => Some((number(s.get())?, number(t.get())?)),
+        _ => None,
+    }
+}
+
 /// `x = x -> ex2 P0. all2 P1. ~P`
 fn nested(alloc: Global) -> Mem<Boxed<Form>> {
-    let x = Var { num: 0, sort: 0 };
-    let equation = Boxed::new(alloc, Form::Equal(Term::Var(x), Term::Var(x)))?;
+    let equation = equation(alloc, 0, 0)?;
     let inner = make::negation(alloc, atom(alloc)?)?;
     let inner = make::for_all_tables(alloc, pred(alloc, 1)?, inner)?;
     let inner = make::exists_table(alloc, pred(alloc, 0)?, inner)?;
@@ -193,5 +214,18 @@ fn a_list_of_formulas_is_copied(rt: HostRuntime) -> Result<(), Fail> {
     let copy = forms.copy(alloc)?;
     forms.push(falsity(alloc)?)?;
     assert!(rt; are_listed(alloc, &copy, &[b"T", b"|&FXTXP"])?);
+    Ok(())
+}
+
+#[test]
+fn a_list_of_formulas_is_taken_apart(rt: HostRuntime) -> Result<(), Fail> {
+    let alloc = rt.alloc();
+    let mut forms = Forms::new(alloc);
+    forms.push(truth(alloc)?)?;
+    forms.push(two_blocks(alloc)?)?;
+    let mut items = forms.into_vec();
+    let last = items.pop();
+    assert!(rt; is_due(alloc, &last, Some(b"|&FXTXP"))?);
+    assert!(rt; items.len() == 1);
     Ok(())
 }

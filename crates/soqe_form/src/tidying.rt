@@ -16,7 +16,7 @@ use crate::recent::Recent;
 use crate::tally::Tally;
 use crate::unkept::Unkept;
 use crate::uses::{Uses, gather};
-use soqe_term::{Mem, Nums, Renaming, Var, renumber, renumber_all};
+use soqe_term::{Mem, Nums, Renaming, Var, renumber_all_own, renumber_own};
 use sqlite_items::Boxed;
 use std::alloc::Global;
 
@@ -25,19 +25,20 @@ use std::alloc::Global;
 ///
 /// It takes time close to linear, n log n, and linear memory for the formula and `keep`: of the two parts of a node the larger one
 /// goes on with the tally of free variables, from which those of the smaller one were taken away; and where a binder's body binds no
-/// variable, the new numbers in it are only listed. It recurses as deep as the formula.
-pub fn tidy(alloc: Global, form: &Form, keep: &Nums) -> Mem<Boxed<Form>>
-    ensures { IfOk result (λ r. r ≡ tidy_form keep.now form.now) }
+/// variable, the new numbers in it are only listed. The formula is used up: each of its boxes is given back before the one in its
+/// place is taken. It recurses as deep as the formula.
+pub fn tidy(alloc: Global, form: Boxed<Form>, keep: &Nums) -> Mem<Boxed<Form>>
+    ensures { IfOk result (λ r. r ≡ tidy_form keep.now form) }
 {
     let mut counts = Recent::new(alloc);
     let mut uses = Uses::new(alloc);
-    gather(form, &mut counts, &mut uses)?;
+    gather(form.get(), &mut counts, &mut uses)?;
     let others = counts.len().saturating_add(uses.len()) as u64;
     let kept = Unkept::new(alloc, keep, others)?;
     let mut by = Renaming::new(alloc);
     let mut tally = Tally::new(alloc);
-    let form = build(alloc, form, &kept, &mut by, &mut uses, &mut tally)?;
-    Boxed::new(alloc, form)
+    let form = build_boxed(alloc, form, &kept, &mut by, &mut uses, &mut tally)?;
+    Ok(form)
 }
 
 /// A tally that is known to count the numbers of the list.
@@ -160,70 +161,68 @@ fn part(
 #[cycle(build)]
 fn build(
     alloc: Global,
-    form: &Form,
+    form: Form,
     kept: &Unkept,
     by: &mut Renaming,
     uses: &mut Uses,
     tally: &mut Tally,
 ) -> Mem<Form>
-    ensures { IfOk result (Tidies kept.now by.old by.new tally.old uses.old uses.new form.now) }
+    ensures { IfOk result (Tidies kept.now by.old by.new tally.old uses.old uses.new form) }
 {
     match form {
         Form::True => Ok(Form::True),
         Form::False => Ok(Form::False),
         Form::Equal(s, t) => {
-            let s = renumber(alloc, s, by)?;
-            let t = renumber(alloc, t, by)?;
+            let s = renumber_own(alloc, s, by)?;
+            let t = renumber_own(alloc, t, by)?;
             Ok(Form::Equal(s, t))
         }
         Form::Atom(p, ts) => {
-            let ts = renumber_all(alloc, ts, by)?;
-            Ok(Form::Atom(*p, ts))
+            let ts = renumber_all_own(alloc, ts, by)?;
+            Ok(Form::Atom(p, ts))
         }
         Form::Not(f) => {
             let f = build_boxed(alloc, f, kept, by, uses, tally)?;
             Ok(Form::Not(f))
         }
         Form::And(f, g) => {
-            let left_is_smaller = part(alloc, f, g, kept, by, uses, tally)?;
+            let left_is_smaller = part(alloc, &f, &g, kept, by, uses, tally)?;
             let g = build_part(alloc, g, left_is_smaller, kept, by, uses, tally)?;
             let f = build_part(alloc, f, !left_is_smaller, kept, by, uses, tally)?;
             Ok(Form::And(f, g))
         }
         Form::Or(f, g) => {
-            let left_is_smaller = part(alloc, f, g, kept, by, uses, tally)?;
+            let left_is_smaller = part(alloc, &f, &g, kept, by, uses, tally)?;
             let g = build_part(alloc, g, left_is_smaller, kept, by, uses, tally)?;
             let f = build_part(alloc, f, !left_is_smaller, kept, by, uses, tally)?;
             Ok(Form::Or(f, g))
         }
         Form::Imp(f, g) => {
-            let left_is_smaller = part(alloc, f, g, kept, by, uses, tally)?;
+            let left_is_smaller = part(alloc, &f, &g, kept, by, uses, tally)?;
             let g = build_part(alloc, g, left_is_smaller, kept, by, uses, tally)?;
             let f = build_part(alloc, f, !left_is_smaller, kept, by, uses, tally)?;
             Ok(Form::Imp(f, g))
         }
         Form::Iff(f, g) => {
-            let left_is_smaller = part(alloc, f, g, kept, by, uses, tally)?;
+            let left_is_smaller = part(alloc, &f, &g, kept, by, uses, tally)?;
             let g = build_part(alloc, g, left_is_smaller, kept, by, uses, tally)?;
             let f = build_part(alloc, f, !left_is_smaller, kept, by, uses, tally)?;
             Ok(Form::Iff(f, g))
         }
         Form::All(x, f) => {
-            let (z, f) = build_below(alloc, *x, f, kept, by, uses, tally)?;
+            let (z, f) = build_below(alloc, x, f, kept, by, uses, tally)?;
             Ok(Form::All(z, f))
         }
         Form::Ex(x, f) => {
-            let (z, f) = build_below(alloc, *x, f, kept, by, uses, tally)?;
+            let (z, f) = build_below(alloc, x, f, kept, by, uses, tally)?;
             Ok(Form::Ex(z, f))
         }
         Form::All2(p, f) => {
             let f = build_boxed(alloc, f, kept, by, uses, tally)?;
-            let p = p.copy(alloc)?;
             Ok(Form::All2(p, f))
         }
         Form::Ex2(p, f) => {
             let f = build_boxed(alloc, f, kept, by, uses, tally)?;
-            let p = p.copy(alloc)?;
             Ok(Form::Ex2(p, f))
         }
     }
@@ -233,15 +232,15 @@ fn build(
 #[cycle(build)]
 fn build_boxed(
     alloc: Global,
-    form: &Boxed<Form>,
+    form: Boxed<Form>,
     kept: &Unkept,
     by: &mut Renaming,
     uses: &mut Uses,
     tally: &mut Tally,
 ) -> Mem<Boxed<Form>>
-    ensures { IfOk result (Tidies kept.now by.old by.new tally.old uses.old uses.new form.now) }
+    ensures { IfOk result (Tidies kept.now by.old by.new tally.old uses.old uses.new form) }
 {
-    let form = build(alloc, form.get(), kept, by, uses, tally)?;
+    let form = build(alloc, form.into_inner(), kept, by, uses, tally)?;
     Boxed::new(alloc, form)
 }
 
@@ -250,14 +249,14 @@ fn build_boxed(
 #[cycle(build)]
 fn build_part(
     alloc: Global,
-    form: &Boxed<Form>,
+    form: Boxed<Form>,
     goes_on: bool,
     kept: &Unkept,
     by: &mut Renaming,
     uses: &mut Uses,
     tally: &mut Tally,
 ) -> Mem<Boxed<Form>>
-    ensures { IfOk result (TidiesPart kept.now goes_on by.old by.new tally.old tally.new uses.old uses.new form.now) }
+    ensures { IfOk result (TidiesPart kept.now goes_on by.old by.new tally.old tally.new uses.old uses.new form) }
 {
     if goes_on {
         let form = build_boxed(alloc, form, kept, by, uses, tally)?;
@@ -278,17 +277,17 @@ fn build_part(
 fn build_below(
     alloc: Global,
     x: Var,
-    form: &Boxed<Form>,
+    form: Boxed<Form>,
     kept: &Unkept,
     by: &mut Renaming,
     uses: &mut Uses,
     tally: &mut Tally,
 ) -> Mem<(Var, Boxed<Form>)>
-    ensures { IfOk result (λ r. TidiesBelow kept.now by.old by.new tally.old uses.old uses.new x form.now r.0 r.1) }
+    ensures { IfOk result (λ r. TidiesBelow kept.now by.old by.new tally.old uses.old uses.new x form r.0 r.1) }
 {
     let count = uses.pop();
     let nests = uses.pop_nests();
-    let num = number(alloc, x.num, form, nests, kept, by, tally)?;
+    let num = number(alloc, x.num, &form, nests, kept, by, tally)?;
     let outer = by.of(x.num);
     by.set(x.num, num)?;
     enter(tally, num, count, nests)?;

@@ -203,8 +203,8 @@ pub fn gather(form: &Form, counts: &mut Recent, uses: &mut Uses) -> Mem<Weight>
     match form {
         Form::True | Form::False => Ok(unbound(1)),
         Form::Equal(s, t) => {
-            let left = count_term(s, counts)?;
-            let right = count_term(t, counts)?;
+            let left = count_term(s.get(), counts)?;
+            let right = count_term(t.get(), counts)?;
             Ok(unbound(left.saturating_add(right)))
         }
         Form::Atom(_, ts) => {

@@ -9,7 +9,15 @@ use Rattle.soqe_form.specs.declared.form.Form.{Form}
 use Rattle.soqe_form.specs.Marks.{marked, Adds, IsLeastWithout}
 use Rattle.soqe_form.specs.FreeVars.{free_vars, is_among}
 use Rattle.soqe_form.proofs.FreeVariables.{is_among-free_vars}
+use Rattle.soqe_form.proofs.TidyNumbers.{least-one}
 use Rattle.soqe_norm.specs.Apart.{binders, renumbered, IsLeast, IsChoice, AreChoices, taken_first, IsApart}
+
+least-without : (p : ℕ → Bool) (n : ℕ) → IsLeast p n → IsLeastWithout (λ m. not (p m)) n
+least-without p n l = record { fails = ap not l.passes; below = λ m h. ap not (l.least m h) }
+
+-- one number is the least
+pub one-least : (p : ℕ → Bool) (m n : ℕ) → IsLeast p m → IsLeast p n → m ≡ n
+one-least p m n h k = least-one (λ k. not (p k)) m n (least-without p m h) (least-without p n k)
 
 -- the least number without a mark, where all taken and all standing numbers have one
 least_choice : (taken used standing : ℕ → Bool) (n : ℕ) → used ≡ (λ m. taken m || standing m) → IsLeastWithout used n → IsLeast (λ m. not (taken m || standing m)) n

@@ -12,6 +12,9 @@ pub mod Quantifieds
 pub mod Prenexes
 pub mod PrenexNames
 pub mod Folded
+pub mod FoldedParts
+pub mod FoldedTidy
+pub mod Joins
 pub mod CaseLists
 pub mod CaseNames
 pub mod CaseTruth

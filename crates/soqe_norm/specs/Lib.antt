@@ -10,6 +10,7 @@ pub mod ApartLaws
 pub mod Prenex
 pub mod PrenexLaws
 pub mod Folds
+pub mod Joins
 pub mod Cases
 pub mod CasesLaws
 pub mod SplitBoxes

@@ -7,7 +7,7 @@
 ghost use Rattle.std.specs.Prelude.{◌≡◌, ◌+◌, ◌<◌, ◌≤◌, ℕ, suc, IfOk, OnOk, true, ◌||◌, ◌++◌, length, slice_index};
 ghost use Rattle.std.specs.Bool.{MatchBool};
 ghost use Rattle.soqe_term.specs.World.{changed};
-ghost use Rattle.soqe_term.specs.Renumber.{renames};
+ghost use Rattle.soqe_term.specs.Renumber.{renames, renumbered as term_under};
 ghost use Rattle.soqe_term.specs.Unused.{member};
 ghost use Rattle.soqe_form.specs.FreeVars.{is_among};
 ghost use Rattle.soqe_form.specs.Marks.{marked, Adds, IsLeastWithout};
@@ -19,7 +19,7 @@ use soqe_form::make::{
     implication, negation,
 };
 use soqe_form::{Form, Marks, free_vars};
-use soqe_term::{Mem, Nums, Renaming, Var, Vars, renumber as renumber_term, renumber_all};
+use soqe_term::{Mem, Nums, Renaming, Term, Var, Vars, renumber as renumber_term, renumber_all};
 use sqlite_items::Boxed;
 use std::alloc::Global;
 
@@ -166,8 +166,8 @@ fn renumber(
         Form::True => Boxed::new(alloc, Form::True),
         Form::False => Boxed::new(alloc, Form::False),
         Form::Equal(s, t) => {
-            let s = renumber_term(alloc, s, by)?;
-            let t = renumber_term(alloc, t, by)?;
+            let s = renumber_side(alloc, s, by)?;
+            let t = renumber_side(alloc, t, by)?;
             Boxed::new(alloc, Form::Equal(s, t))
         }
         Form::Atom(p, terms) => {
@@ -225,6 +225,14 @@ fn renumber(
             exists_table(alloc, p, f)
         }
     }
+}
+
+/// A side of an equation under the new numbers.
+fn renumber_side(alloc: Global, term: &Boxed<Term>, by: &Renaming) -> Mem<Boxed<Term>>
+    ensures { IfOk result (λ r. r ≡ term_under (renames by.now) term.now) }
+{
+    let term = renumber_term(alloc, term.get(), by)?;
+    Boxed::new(alloc, term)
 }
 
 /// The body of a binder of the variable, which gets the number at the entry `at`.

@@ -7,11 +7,13 @@
 //! atoms alone; `specs/Apart.antt`, distinct bound variables; `specs/Prenex.antt`, quantifiers of variables in front.
 //!
 //! `specs/Cases.antt` says into which cases a formula falls for a predicate: some case holds exactly where the formula does.
+//! `specs/Folds.antt` has the formulas of lists, which the module `folding` makes: of a case, of alternatives.
 #![tactic(auto)]
 
 pub mod apart;
 pub mod case_list;
 pub mod cases;
+pub mod folding;
 pub mod laws;
 pub mod nnf;
 pub mod prenex;

@@ -10,7 +10,7 @@ use soqe_form::make::{
     conjunction, constant, disjunction, exists, exists_table, for_all, for_all_tables, negation,
 };
 use soqe_form::{Form, Pred};
-use soqe_term::{Mem, Term, Terms};
+use soqe_term::{Mem, Term, Terms, copy_term};
 use sqlite_items::Boxed;
 use std::alloc::Global;
 
@@ -101,11 +101,11 @@ pub fn nnf(alloc: Global, form: &Form, negated: bool) -> Mem<Boxed<Form>>
 }
 
 /// An equation or its negation.
-fn equation(alloc: Global, s: &Term, t: &Term, negated: bool) -> Mem<Boxed<Form>>
+fn equation(alloc: Global, s: &Boxed<Term>, t: &Boxed<Term>, negated: bool) -> Mem<Boxed<Form>>
     ensures { IfOk result (λ r. r ≡ cond negated (Not (Equal s.now t.now)) (Equal s.now t.now)) }
 {
-    let s = s.copy(alloc)?;
-    let t = t.copy(alloc)?;
+    let s = copy_term(alloc, s)?;
+    let t = copy_term(alloc, t)?;
     let equal = Boxed::new(alloc, Form::Equal(s, t))?;
     if negated {
         negation(alloc, equal)

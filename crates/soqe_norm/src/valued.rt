@@ -11,7 +11,7 @@ use soqe_form::make::{
     implication, negation,
 };
 use soqe_form::{Block, Form, PVar, Pred, copy_boxed};
-use soqe_term::Mem;
+use soqe_term::{Mem, copy_term};
 use sqlite_items::Boxed;
 use std::alloc::Global;
 
@@ -64,8 +64,8 @@ pub fn valued(alloc: Global, form: &Form, pred: u64, value: bool) -> Mem<Boxed<F
         Form::True => Boxed::new(alloc, Form::True),
         Form::False => Boxed::new(alloc, Form::False),
         Form::Equal(s, t) => {
-            let s = s.copy(alloc)?;
-            let t = t.copy(alloc)?;
+            let s = copy_term(alloc, s)?;
+            let t = copy_term(alloc, t)?;
             Boxed::new(alloc, Form::Equal(s, t))
         }
         Form::Atom(p, ts) => {

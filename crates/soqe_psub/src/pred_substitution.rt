@@ -12,7 +12,7 @@ use soqe_form::{
     Form, Marks, PVar, Pred, copy_boxed, has_free_pred, is_hidden, is_same_pred, rename,
     rename_pred, subst_all,
 };
-use soqe_term::{Mem, Terms, Var, Vars};
+use soqe_term::{Mem, Terms, Var, Vars, copy_term};
 use sqlite_items::Boxed;
 use std::alloc::Global;
 
@@ -79,8 +79,8 @@ fn replace(alloc: Global, form: &Form, by: &Replacement) -> Mem<Form>
         Form::True => Ok(Form::True),
         Form::False => Ok(Form::False),
         Form::Equal(s, t) => {
-            let s = s.copy(alloc)?;
-            let t = t.copy(alloc)?;
+            let s = copy_term(alloc, s)?;
+            let t = copy_term(alloc, t)?;
             Ok(Form::Equal(s, t))
         }
         Form::Atom(p, ts) => {

@@ -89,7 +89,7 @@ pub fn write_form(out: &mut String, sig: &Signature, form: &Form) -> Mem<()>
     match form {
         Form::True => out.push_str("true"),
         Form::False => out.push_str("false"),
-        Form::Equal(s, t) => write_equation(out, sig, "=", s, t),
+        Form::Equal(s, t) => write_equation(out, sig, "=", s.get(), t.get()),
         Form::Atom(p, ts) => write_atom(out, sig, *p, ts),
         Form::Not(f) => write_negated(out, sig, f),
         Form::And(f, g) => {
@@ -151,7 +151,7 @@ fn write_negated(out: &mut String, sig: &Signature, form: &Boxed<Form>) -> Mem<(
     ensures { OnOk result (string_bytes out.new ≡ string_bytes out.old ++ tree_text (negated (dress sig.now form.now))) }
 {
     match form.get() {
-        Form::Equal(s, t) => write_equation(out, sig, "!=", s, t),
+        Form::Equal(s, t) => write_equation(out, sig, "!=", s.get(), t.get()),
         _ => {
             out.push_str("~")?;
             write_guarded(out, sig, 4, form)

@@ -3,7 +3,7 @@
 //! join what stands before them; `a` and `e` bind variables, `A` and `E` predicates.
 use crate::{show_form, show_problem, show_term};
 use soqe_form::make::{
-    conjunction, disjunction, equivalence, exists, exists_table, for_all, for_all_tables,
+    conjunction, disjunction, equation, equivalence, exists, exists_table, for_all, for_all_tables,
     implication, negation,
 };
 use soqe_form::{Form, PVar, Pred};
@@ -105,7 +105,7 @@ fn atom(alloc: Global, sign: u8) -> Mem<Boxed<Form>> {
             let args = before(alloc, unnamed(alloc)?, Terms::Nil)?;
             Boxed::new(alloc, Form::Atom(Pred::Bound(2), args))
         }
-        b'=' => Boxed::new(alloc, Form::Equal(constant(), Term::Var(Y))),
+        b'=' => equation(alloc, constant(), Term::Var(Y)),
         b't' => Boxed::new(alloc, Form::True),
         _ => Boxed::new(alloc, Form::False),
     }

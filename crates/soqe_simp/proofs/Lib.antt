@@ -19,7 +19,6 @@ pub mod Simple
 pub mod Settled
 pub mod Readies
 mod Positions
-mod TakenApart
 mod Finished
 mod EndsOf
 mod Sided

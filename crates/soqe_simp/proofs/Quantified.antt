@@ -3,7 +3,7 @@ use Rattle.std.proofs.Common.{◌≡◌, ℕ, ◌+◌, ◌≤◌, Bool, true, fa
 use Rattle.std.specs.Option.{option_map}
 use Rattle.soqe_term.specs.declared.term.Var.{Var}
 use Rattle.soqe_term.proofs.Choices.{by_cases}
-use Rattle.soqe_form.specs.declared.form.Form.{Form, All, Ex}
+use Rattle.soqe_form.specs.declared.form.Form.{Form, All, All', Ex, Ex', end_of-Form as end, more_of-Form as one}
 use Rattle.soqe_form.specs.Boxes.{boxes}
 use Rattle.soqe_form.specs.Free.{free}
 use Rattle.soqe_simp.specs.declared.chains.Quantifier.{Quantifier}
@@ -14,10 +14,17 @@ use Rattle.soqe_simp.specs.Rows.{rows, with_solution}
 use Rattle.soqe_simp.specs.Step.{by_row, step}
 use Rattle.soqe_simp.specs.Ready.{Children, IsSimple}
 use Rattle.soqe_simp.specs.Simplified.{on_children, then_on, simplify}
-use Rattle.soqe_simp.specs.Chains.{quantified, quantify}
+use Rattle.soqe_simp.specs.Chains.{is_quantified, quantified, quantify}
 use Rattle.soqe_simp.proofs.Simple.{simplify-simple, simple-stays}
 use Rattle.soqe_simp.proofs.Simplifies.{simplify-keeps}
 use Rattle.soqe_simp.proofs.Settled.{simplify-at_root, simplify-children}
+
+-- one is at the root
+pub quantified-default : (f : Form) → is_quantified f ≡ true → ((x : Var) (g : Form) → f ≡ All x g → ⊥) → ((x : Var) (g : Form) → f ≡ Ex x g → ⊥) → ⊥
+unfolding boxes
+quantified-default (All' x _ (one f end)) h a e = a x f refl
+quantified-default (Ex' x _ (one f end)) h a e = e x f refl
+quantified-default _ h a e = cc
 
 pub quantify-push : (qs : List Quantifier) (q : Quantifier) (f : Form) → quantify (qs ++ q ∷ []) f ≡ quantify qs (quantified q f)
 quantify-push [] q f = refl
@@ -82,10 +89,10 @@ weight-pushed qs q f g e =
 
 -- ---- a chain of quantifiers was walked down from q on, and the body was made of what stands behind it
 
-pub chain-whole : (start pushed chain : List Quantifier) (q : Quantifier) (form now inner : Form) → start ≡ [] → pushed ≡ start ++ q ∷ [] → now ≡ form → quantify chain inner ≡ quantify pushed now
+pub chain-whole : (start pushed chain : List Quantifier) (q : Quantifier) (form inner : Form) → start ≡ [] → pushed ≡ start ++ q ∷ [] → quantify chain inner ≡ quantify pushed form
     → quantify chain inner ≡ quantified q form
-chain-whole start pushed chain q form now inner none one is walked =
-    walked ∙ ap (quantify pushed) is ∙ ap (λ l. quantify l form) (one ∙ ap (λ l. l ++ q ∷ []) none)
+chain-whole start pushed chain q form inner none single walked =
+    walked ∙ ap (λ l. quantify l form) (single ∙ ap (λ l. l ++ q ∷ []) none)
 
 pub chain-weighs : (chain : List Quantifier) (inner body whole : Form) → body ≡ simplify inner → quantify chain inner ≡ whole → weight (quantify chain body) ≤ weight whole
 chain-weighs chain inner body whole made is =

@@ -1,6 +1,6 @@
 -- A formula whose children are simple is made simple at its root alone.
-use Rattle.std.proofs.Common.{◌≡◌, ◌<◌, ◌≤◌, sym, ◌∙◌, ap, subst, arith}
-use Rattle.soqe_form.specs.declared.form.Form.{Form, Not, Imp}
+use Rattle.std.proofs.Common.{◌≡◌, ◌≤◌, refl, sym, ◌∙◌, ap, subst, arith}
+use Rattle.soqe_form.specs.declared.form.Form.{Form, Not, Not', Imp, Imp', end_of-Form as end, more_of-Form as one}
 use Rattle.soqe_form.specs.Boxes.{boxes}
 use Rattle.soqe_simp.specs.Weight.{weight}
 use Rattle.soqe_simp.specs.Simplified.{on_children, root_simplified, simplify}
@@ -31,53 +31,37 @@ unfolding boxes
 simplify-imp a b d r s h k =
     k ∙ ap (λ b. simplify (Imp b d)) h ∙ ap (λ d. simplify (Imp (simplify a) d)) (sym (simple-stays d s)) ∙ simplify-children (Imp a d)
 
--- ---- f is ~A or A -> D: b is A, c is b made simple, e is D
+-- ---- f is ~A or A -> D, and c is A made simple
 
-pub not-lighter : (f a b c : Form) → f ≡ Not a → b ≡ a → c ≡ simplify b → weight (Not c) ≤ weight f
+pub not-lighter : (f a c : Form) → f ≡ Not a → c ≡ simplify a → weight (Not c) ≤ weight f
 unfolding boxes
-not-lighter f a b c form first made =
-    let of_f : weight f ≡ weight (Not a) = ap weight form in
-    let of_b : weight b ≡ weight a = ap weight first in
-    let of_c : weight c ≡ weight (simplify b) = ap weight made in
-    omega (arith, of_f, of_b, of_c, (simplify-keeps b).weight)
+not-lighter f a c form made = omega (arith, ap weight form, ap weight made, (simplify-keeps a).weight)
 
-pub not-ready : (b c : Form) → c ≡ simplify b → Children IsSimple (Not c)
+pub not-ready : (a c : Form) → c ≡ simplify a → Children IsSimple (Not c)
 unfolding boxes
-not-ready b c made = subst IsSimple (sym made) (simplify-simple b)
+not-ready a c made = subst IsSimple (sym made) (simplify-simple a)
 
-pub not-simplified : (f a b c r : Form) → f ≡ Not a → b ≡ a → c ≡ simplify b → r ≡ simplify (Not c) → r ≡ simplify f
-not-simplified f a b c r form first made e = simplify-not a c r (made ∙ ap simplify first) e ∙ ap simplify (sym form)
+pub not-simplified : (f a c r : Form) → f ≡ Not a → c ≡ simplify a → r ≡ simplify (Not c) → r ≡ simplify f
+not-simplified f a c r form made e = simplify-not a c r made e ∙ ap simplify (sym form)
 
-second-simple : (f a d : Form) → f ≡ Imp a d → IsBelow f → IsSimple d
+pub below-imp : (f a d : Form) → IsBelow f → f ≡ Imp a d → Children IsSimple a × IsSimple d
 unfolding boxes
-second-simple f a d form below = (subst IsBelow form below).1
+below-imp f a d below form = subst IsBelow form below
 
-pub first-lighter : (f a d b : Form) → f ≡ Imp a d → b ≡ a → weight b < weight f
+pub imp-lighter : (f a d c : Form) → f ≡ Imp a d → c ≡ simplify a → weight (Imp c d) ≤ weight f
 unfolding boxes
-first-lighter f a d b form first =
-    let of_f : weight f ≡ weight (Imp a d) = ap weight form in
-    let of_b : weight b ≡ weight a = ap weight first in
-    omega (arith, of_f, of_b)
+imp-lighter f a d c form made = omega (arith, ap weight form, ap weight made, (simplify-keeps a).weight)
 
-pub first-ready : (f a d b : Form) → IsBelow f → f ≡ Imp a d → b ≡ a → Children IsSimple b
+pub imp-ready : (f a d c : Form) → IsBelow f → f ≡ Imp a d → c ≡ simplify a → Children IsSimple (Imp c d)
 unfolding boxes
-first-ready f a d b below form first = subst (Children IsSimple) (sym first) (subst IsBelow form below).0
+imp-ready f a d c below form made = (subst IsSimple (sym made) (simplify-simple a), (below-imp f a d below form).1)
 
-pub imp-lighter : (f a d b c e : Form) → f ≡ Imp a d → b ≡ a → c ≡ simplify b → e ≡ d → weight (Imp c e) ≤ weight f
+pub imp-simplified : (f a d c r : Form) → IsBelow f → f ≡ Imp a d → c ≡ simplify a → r ≡ simplify (Imp c d) → r ≡ simplify f
+imp-simplified f a d c r below form made e = simplify-imp a c d r (below-imp f a d below form).1 made e ∙ ap simplify (sym form)
+
+-- it is one of the two
+pub below-default : (f : Form) → IsBelow f → ((a : Form) → f ≡ Not a → ⊥) → ((a d : Form) → f ≡ Imp a d → ⊥) → ⊥
 unfolding boxes
-imp-lighter f a d b c e form first made second =
-    let of_f : weight f ≡ weight (Imp a d) = ap weight form in
-    let of_b : weight b ≡ weight a = ap weight first in
-    let of_c : weight c ≡ weight (simplify b) = ap weight made in
-    let of_e : weight e ≡ weight d = ap weight second in
-    omega (arith, of_f, of_b, of_c, of_e, (simplify-keeps b).weight)
-
-pub imp-ready : (f a d b c e : Form) → IsBelow f → f ≡ Imp a d → c ≡ simplify b → e ≡ d → Children IsSimple (Imp c e)
-unfolding boxes
-imp-ready f a d b c e below form made second =
-    (subst IsSimple (sym made) (simplify-simple b), subst IsSimple (sym second) (second-simple f a d form below))
-
-pub imp-simplified : (f a d b c e r : Form) → IsBelow f → f ≡ Imp a d → b ≡ a → c ≡ simplify b → e ≡ d → r ≡ simplify (Imp c e) → r ≡ simplify f
-imp-simplified f a d b c e r below form first made second h =
-    simplify-imp a c d r (second-simple f a d form below) (made ∙ ap simplify first) (h ∙ ap simplify (ap (Imp c) second))
-    ∙ ap simplify (sym form)
+below-default (Not' _ (one f end)) below n m = n f refl
+below-default (Imp' _ (one f end) _ (one g end)) below n m = m f g refl
+below-default _ below n m = below

@@ -1,8 +1,8 @@
 //! Chains of quantifiers of variables: one in front of the other, of either kind.
 #![tactic(auto, unfolding(soqe_form::specs::Boxes::boxes))]
 
-ghost use Rattle.std.specs.Prelude.{◌≡◌, ◌≤◌, IfOk, MatchOption};
-ghost use Rattle.soqe_simp.specs.Chains.{quantify, quantified as quantified_of};
+ghost use Rattle.std.specs.Prelude.{◌≡◌, ◌≤◌, true, IfOk};
+ghost use Rattle.soqe_simp.specs.Chains.{is_quantified as is_quantified_of, quantify, quantified as quantified_of};
 ghost use Rattle.soqe_simp.specs.Stepped.{stepped};
 ghost use Rattle.soqe_simp.specs.Weight.{weight};
 
@@ -23,48 +23,36 @@ pub struct Quantifier {
 
 /// A quantifier, and the formula behind it.
 #[derive(Drop)]
-struct Opened<'a> {
-    quantifier: Quantifier,
-    body: &'a Form,
+pub struct Opened {
+    pub quantifier: Quantifier,
+    pub body: Boxed<Form>,
 }
 
-/// Adds the quantifiers in front of the formula to the chain, from the outermost on, and gives the formula behind them.
-pub fn chain_of<'a>(form: &'a Form, chain: &mut Vec<Quantifier>) -> Mem<&'a Form>
-    ensures whole { IfOk result (λ body. quantify chain.new.items body.now ≡ quantify chain.old.items form.now) }
-    ensures lighter { IfOk result (λ body. weight body.now ≤ weight form.now) }
+/// Adds the quantifiers in front of the formula to the chain, from the outermost on, and gives the formula behind them. It takes
+/// the formula apart by a loop.
+pub fn chain_of(form: Boxed<Form>, chain: &mut Vec<Quantifier>) -> Mem<Boxed<Form>>
+    ensures whole { IfOk result (λ body. quantify chain.new.items body ≡ quantify chain.old.items form) }
+    ensures lighter { IfOk result (λ body. weight body ≤ weight form) }
 {
     let mut body = form;
-    while let Some(outer) = outermost(body) {
-        chain.push(outer.quantifier)?;
-        body = outer.body;
+    while is_quantified(body.get()) {
+        let outer = open(body);
+        let Opened {
+            quantifier,
+            body: inner,
+        } = outer;
+        chain.push(quantifier)?;
+        body = inner;
     }
     Ok(body)
 }
 
 /// Whether a quantifier of a variable is at the root.
-pub fn is_quantified(form: &Form) -> bool {
-    outermost(form).is_some()
-}
-
-/// The quantifier at the root, if one is there.
-fn outermost(form: &Form) -> Option<Opened<'_>>
-    ensures { MatchOption result (Unit {0}) (λ outer. form.now ≡ quantified_of outer.quantifier outer.body.now) }
+pub fn is_quantified(form: &Form) -> bool
+    ensures { result ≡ is_quantified_of form.now }
 {
     match form {
-        Form::All(x, f) => Some(Opened {
-            quantifier: Quantifier {
-                universal: true,
-                variable: *x,
-            },
-            body: f.get(),
-        }),
-        Form::Ex(x, f) => Some(Opened {
-            quantifier: Quantifier {
-                universal: false,
-                variable: *x,
-            },
-            body: f.get(),
-        }),
+        Form::All(_, _) | Form::Ex(_, _) => true,
         Form::True
         | Form::False
         | Form::Equal(_, _)
@@ -75,7 +63,31 @@ fn outermost(form: &Form) -> Option<Opened<'_>>
         | Form::Imp(_, _)
         | Form::Iff(_, _)
         | Form::All2(_, _)
-        | Form::Ex2(_, _) => None,
+        | Form::Ex2(_, _) => false,
+    }
+}
+
+/// The quantifier at the root, and the formula behind it.
+pub fn open(form: Boxed<Form>) -> Opened
+    requires { is_quantified_of form ≡ true }
+    ensures { form ≡ quantified_of result.quantifier result.body }
+{
+    match form.into_inner() {
+        Form::All(variable, body) => Opened {
+            quantifier: Quantifier {
+                universal: true,
+                variable,
+            },
+            body,
+        },
+        Form::Ex(variable, body) => Opened {
+            quantifier: Quantifier {
+                universal: false,
+                variable,
+            },
+            body,
+        },
+        _ => unreachable!(),
     }
 }
 

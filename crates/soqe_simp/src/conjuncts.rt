@@ -84,7 +84,7 @@ pub fn find(alloc: Global, x: Var, form: &Form, passed: &Passed) -> Mem<Option<S
     match form {
         Form::True => Ok(None),
         Form::False => Ok(None),
-        Form::Equal(s, t) => solution(alloc, x, s, t, passed),
+        Form::Equal(s, t) => solution(alloc, x, s.get(), t.get(), passed),
         Form::Atom(_, _) => Ok(None),
         Form::Not(_) => Ok(None),
         Form::And(f, g) => {

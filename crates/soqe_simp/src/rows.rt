@@ -28,10 +28,10 @@ use sqlite_items::Boxed;
 use std::alloc::Global;
 
 /// The rows for s = t.
-pub fn at_equal(alloc: Global, s: Term, t: Term) -> Mem<Stepped>
+pub fn at_equal(alloc: Global, s: Boxed<Term>, t: Boxed<Term>) -> Mem<Stepped>
     ensures { IfOk result (λ r. r ≡ stepped (Equal s t)) }
 {
-    if s.equals(&t) {
+    if s.get().equals(t.get()) {
         return gives_constant(alloc, 4, true);
     }
     let form = Boxed::new(alloc, Form::Equal(s, t))?;

@@ -60,8 +60,8 @@ pub fn mark_sides(form: &Form, places: &mut Counts, marks: &mut Marks) -> Mem<()
 {
     match form {
         Form::Equal(s, t) => {
-            mark_side(s, t, places, marks)?;
-            mark_side(t, s, places, marks)?;
+            mark_side(s.get(), t.get(), places, marks)?;
+            mark_side(t.get(), s.get(), places, marks)?;
             Ok(())
         }
         Form::And(f, g) => {

@@ -9,9 +9,10 @@ ghost use Rattle.soqe_simp.specs.Finished.{finished, IsReady};
 ghost use Rattle.soqe_simp.specs.Chains.{quantify, quantified as quantified_of};
 ghost use Rattle.soqe_simp.specs.Known.{PutsBack};
 
-use crate::chains::{Quantifier, chain_of, is_quantified, quantified, step_quantified};
+use crate::chains::{
+    Opened, Quantifier, chain_of, is_quantified, open, quantified, step_quantified,
+};
 use crate::known::{Known, know, learn, may_be_defined, pass};
-use crate::parts::{Implication, denied, implication_parts};
 use crate::rewriting::Rewritten;
 use crate::rows::{
     at_and, at_equal, at_existential, at_existential_block, at_iff, at_imp, at_not, at_or,
@@ -29,47 +30,26 @@ const FEW: usize = 4;
 /// The formula made simple: its children first, from left to right; then the first row that applies at the root, and what
 /// it gives made simple. Where no row applies at the root, that is the end.
 ///
-/// What most rows give is known to be simple, or simple but for a node or two, and is not walked again; its parts are moved. A chain
-/// of quantifiers of variables is put back by what is known of the formula behind it, in time linear in both, but for those that go
-/// by rows 35 to 37. Single quantifiers look for names and equations in their bodies, so that the time can be the square of the
-/// formula's size. It recurses as deep as the formula, where a chain of quantifiers counts as one.
+/// It takes the formula apart and copies none of it: the parts and terms that are left are moved into what comes out. What most
+/// rows give is known to be simple, or simple but for a node or two, and is not walked again. A chain of quantifiers of variables
+/// is put back by what is known of the formula behind it, in time linear in both, but for those that go by rows 35 to 37. Single
+/// quantifiers look for names and equations in their bodies, so that the time can be the square of the formula's size. It recurses
+/// as deep as the formula, where a chain of quantifiers counts as one.
 #[cycle(simplify)]
-pub fn simplify(alloc: Global, form: &Form) -> Mem<Boxed<Form>>
-    ensures exact { IfOk result (λ r. r ≡ simple form.now) }
+pub fn simplify(alloc: Global, form: Boxed<Form>) -> Mem<Boxed<Form>>
+    ensures exact { IfOk result (λ r. r ≡ simple form) }
 {
-    match form {
-        Form::All(x, f) => {
-            let outermost = Quantifier {
-                universal: true,
-                variable: *x,
-            };
-            simplify_chain(alloc, outermost, f)
-        }
-        Form::Ex(x, f) => {
-            let outermost = Quantifier {
-                universal: false,
-                variable: *x,
-            };
-            simplify_chain(alloc, outermost, f)
-        }
-        Form::True
-        | Form::False
-        | Form::Equal(_, _)
-        | Form::Atom(_, _)
-        | Form::Not(_)
-        | Form::And(_, _)
-        | Form::Or(_, _)
-        | Form::Imp(_, _)
-        | Form::Iff(_, _)
-        | Form::All2(_, _)
-        | Form::Ex2(_, _) => simplify_node(alloc, form),
+    if is_quantified(form.get()) {
+        let Opened { quantifier, body } = open(form);
+        return simplify_chain(alloc, quantifier, body);
     }
+    simplify_node(alloc, form)
 }
 
 /// The formula made simple by its children, then its root.
 #[cycle(simplify)]
-fn simplify_node(alloc: Global, form: &Form) -> Mem<Boxed<Form>>
-    ensures { IfOk result (λ r. r ≡ simple form.now) }
+fn simplify_node(alloc: Global, form: Boxed<Form>) -> Mem<Boxed<Form>>
+    ensures { IfOk result (λ r. r ≡ simple form) }
 {
     let stepped = step_at_root(alloc, form)?;
     finish(alloc, stepped)
@@ -77,61 +57,52 @@ fn simplify_node(alloc: Global, form: &Form) -> Mem<Boxed<Form>>
 
 /// The step at the root, once the children are made simple.
 #[cycle(simplify)]
-fn step_at_root(alloc: Global, form: &Form) -> Mem<Stepped>
-    ensures { IfOk result (λ r. r ≡ stepped_of (on_children simple form.now)) }
+fn step_at_root(alloc: Global, form: Boxed<Form>) -> Mem<Stepped>
+    ensures { IfOk result (λ r. r ≡ stepped_of (on_children simple form)) }
 {
-    match form {
+    match form.into_inner() {
         Form::True => settled_constant(alloc, true),
         Form::False => settled_constant(alloc, false),
-        Form::Equal(s, t) => {
-            let s = s.copy(alloc)?;
-            let t = t.copy(alloc)?;
-            at_equal(alloc, s, t)
-        }
-        Form::Atom(p, ts) => {
-            let ts = ts.copy(alloc)?;
-            settled_atom(alloc, *p, ts)
-        }
+        Form::Equal(s, t) => at_equal(alloc, s, t),
+        Form::Atom(p, ts) => settled_atom(alloc, p, ts),
         Form::Not(f) => {
-            let f = simplify(alloc, f.get())?;
+            let f = simplify(alloc, f)?;
             at_not(alloc, f)
         }
         Form::And(f, g) => {
-            let f = simplify(alloc, f.get())?;
-            let g = simplify(alloc, g.get())?;
+            let f = simplify(alloc, f)?;
+            let g = simplify(alloc, g)?;
             at_and(alloc, f, g)
         }
         Form::Or(f, g) => {
-            let f = simplify(alloc, f.get())?;
-            let g = simplify(alloc, g.get())?;
+            let f = simplify(alloc, f)?;
+            let g = simplify(alloc, g)?;
             at_or(alloc, f, g)
         }
         Form::Imp(f, g) => {
-            let f = simplify(alloc, f.get())?;
-            let g = simplify(alloc, g.get())?;
+            let f = simplify(alloc, f)?;
+            let g = simplify(alloc, g)?;
             at_imp(alloc, f, g)
         }
         Form::Iff(f, g) => {
-            let f = simplify(alloc, f.get())?;
-            let g = simplify(alloc, g.get())?;
+            let f = simplify(alloc, f)?;
+            let g = simplify(alloc, g)?;
             at_iff(alloc, f, g)
         }
         Form::All(x, f) => {
-            let f = simplify(alloc, f.get())?;
-            at_universal(alloc, *x, f)
+            let f = simplify(alloc, f)?;
+            at_universal(alloc, x, f)
         }
         Form::Ex(x, f) => {
-            let f = simplify(alloc, f.get())?;
-            at_existential(alloc, *x, f)
+            let f = simplify(alloc, f)?;
+            at_existential(alloc, x, f)
         }
         Form::All2(p, f) => {
-            let p = p.copy(alloc)?;
-            let f = simplify(alloc, f.get())?;
+            let f = simplify(alloc, f)?;
             at_universal_block(alloc, p, f)
         }
         Form::Ex2(p, f) => {
-            let p = p.copy(alloc)?;
-            let f = simplify(alloc, f.get())?;
+            let f = simplify(alloc, f)?;
             at_existential_block(alloc, p, f)
         }
     }
@@ -172,7 +143,7 @@ fn settle_made(alloc: Global, made: Rewritten) -> Mem<Boxed<Form>>
         return settle_first(alloc, made.form);
     }
     if is_anew(made.row) {
-        return simplify(alloc, made.form.get());
+        return simplify(alloc, made.form);
     }
     Ok(made.form)
 }
@@ -183,34 +154,18 @@ fn settle_first(alloc: Global, form: Boxed<Form>) -> Mem<Boxed<Form>>
     requires { IsBelow form }
     ensures { IfOk result (λ r. r ≡ simple form) }
 {
-    match form.get() {
-        Form::Not(_) => {
-            let a = denied(alloc, form)?;
+    match form.into_inner() {
+        Form::Not(a) => {
             let a = settle(alloc, a)?;
             let stepped = at_not(alloc, a)?;
             finish(alloc, stepped)
         }
-        Form::Imp(_, _) => {
-            let parts = implication_parts(alloc, form)?;
-            let Implication {
-                condition,
-                conclusion,
-            } = parts;
-            let a = settle(alloc, condition)?;
-            let stepped = at_imp(alloc, a, conclusion)?;
+        Form::Imp(a, d) => {
+            let a = settle(alloc, a)?;
+            let stepped = at_imp(alloc, a, d)?;
             finish(alloc, stepped)
         }
-        Form::True
-        | Form::False
-        | Form::Equal(_, _)
-        | Form::Atom(_, _)
-        | Form::And(_, _)
-        | Form::Or(_, _)
-        | Form::Iff(_, _)
-        | Form::All(_, _)
-        | Form::Ex(_, _)
-        | Form::All2(_, _)
-        | Form::Ex2(_, _) => simplify(alloc, form.get()),
+        _ => unreachable!(),
     }
 }
 
@@ -235,15 +190,15 @@ fn is_anew(row: u8) -> bool
 /// A chain of quantifiers with the formula behind it made simple: the formula first, then one quantifier after the other from the
 /// innermost on.
 #[cycle(simplify)]
-fn simplify_chain(alloc: Global, outermost: Quantifier, form: &Boxed<Form>) -> Mem<Boxed<Form>>
-    ensures { IfOk result (λ r. r ≡ simple (quantified_of outermost form.now)) }
+fn simplify_chain(alloc: Global, outermost: Quantifier, form: Boxed<Form>) -> Mem<Boxed<Form>>
+    ensures { IfOk result (λ r. r ≡ simple (quantified_of outermost form)) }
 {
     if !is_quantified(form.get()) {
         return simplify_one(alloc, outermost, form);
     }
     let mut chain = Vec::new(alloc);
     chain.push(outermost)?;
-    let inner = chain_of(form.get(), &mut chain)?;
+    let inner = chain_of(form, &mut chain)?;
     let body = simplify(alloc, inner)?;
     if chain.len() < FEW {
         put_back_few(alloc, chain, body)
@@ -254,10 +209,10 @@ fn simplify_chain(alloc: Global, outermost: Quantifier, form: &Boxed<Form>) -> M
 
 /// A quantifier in front of a formula, made simple. It takes no memory but for the formula.
 #[cycle(simplify)]
-fn simplify_one(alloc: Global, quantifier: Quantifier, form: &Boxed<Form>) -> Mem<Boxed<Form>>
-    ensures { IfOk result (λ r. r ≡ simple (quantified_of quantifier form.now)) }
+fn simplify_one(alloc: Global, quantifier: Quantifier, form: Boxed<Form>) -> Mem<Boxed<Form>>
+    ensures { IfOk result (λ r. r ≡ simple (quantified_of quantifier form)) }
 {
-    let body = simplify(alloc, form.get())?;
+    let body = simplify(alloc, form)?;
     put_front(alloc, quantifier, body)
 }
 

@@ -4,7 +4,7 @@
 //! with the variables 0 and 1, `e` and `g` are `ex` with them; `A` and `E` bind the predicate 0.
 use crate::{RowTable, row_names, simplify, step};
 use soqe_form::make::{
-    conjunction, disjunction, equivalence, exists, exists_table, for_all, for_all_tables,
+    conjunction, disjunction, equation, equivalence, exists, exists_table, for_all, for_all_tables,
     implication, negation,
 };
 use soqe_form::{Form, PVar, Pred, same};
@@ -36,7 +36,7 @@ fn value_of(alloc: Global) -> Mem<Boxed<Form>> {
     let first = Boxed::new(alloc, Term::Var(x(1)))?;
     let rest = Boxed::new(alloc, Terms::Nil)?;
     let value = Term::App(Sym::Fun(0), 0, Terms::Cons(first, rest));
-    Boxed::new(alloc, Form::Equal(Term::Var(x(0)), value))
+    equation(alloc, Term::Var(x(0)), value)
 }
 
 fn last(alloc: Global, stack: &mut Vec<Boxed<Form>>) -> Mem<Boxed<Form>> {
@@ -73,11 +73,11 @@ fn next(alloc: Global, sign: u8, stack: &mut Vec<Boxed<Form>>) -> Mem<Boxed<Form
         b'f' => Boxed::new(alloc, Form::False),
         b'd' => Boxed::new(alloc, Form::Atom(Pred::Decl(0), Terms::Nil)),
         b'p' => Boxed::new(alloc, Form::Atom(Pred::Bound(0), Terms::Nil)),
-        b'u' => Boxed::new(alloc, Form::Equal(Term::Var(x(0)), Term::Var(x(1)))),
-        b'v' => Boxed::new(alloc, Form::Equal(Term::Var(x(1)), Term::Var(x(0)))),
-        b'w' => Boxed::new(alloc, Form::Equal(Term::Var(x(0)), Term::Var(x(0)))),
-        b'x' => Boxed::new(alloc, Form::Equal(Term::Var(x(1)), Term::Var(x(2)))),
-        b'y' => Boxed::new(alloc, Form::Equal(Term::Var(x(2)), Term::Var(x(3)))),
+        b'u' => equation(alloc, Term::Var(x(0)), Term::Var(x(1))),
+        b'v' => equation(alloc, Term::Var(x(1)), Term::Var(x(0))),
+        b'w' => equation(alloc, Term::Var(x(0)), Term::Var(x(0))),
+        b'x' => equation(alloc, Term::Var(x(1)), Term::Var(x(2))),
+        b'y' => equation(alloc, Term::Var(x(2)), Term::Var(x(3))),
         b'z' => value_of(alloc),
         b'0'..=b'3' => atom_of(alloc, sign),
         b'&' | b'|' | b'>' | b'=' => {
@@ -114,7 +114,7 @@ fn steps(alloc: Global, text: &[u8], row: u8, wanted: &[u8]) -> Mem<bool> {
 fn simplifies(alloc: Global, text: &[u8], wanted: &[u8]) -> Mem<bool> {
     let f = made(alloc, text)?;
     let g = made(alloc, wanted)?;
-    let simple = simplify(alloc, f.get())?;
+    let simple = simplify(alloc, f)?;
     Ok(same(simple.get(), g.get()))
 }
 
@@ -269,7 +269,7 @@ fn behind(alloc: Global, chain: &[u8], text: &[u8]) -> Mem<Boxed<Form>> {
 fn leaves(alloc: Global, text: (&[u8], &[u8]), wanted: (&[u8], &[u8])) -> Mem<bool> {
     let f = behind(alloc, text.0, text.1)?;
     let g = behind(alloc, wanted.0, wanted.1)?;
-    let simple = simplify(alloc, f.get())?;
+    let simple = simplify(alloc, f)?;
     Ok(same(simple.get(), g.get()))
 }
 

@@ -31,13 +31,13 @@ pub use kinds::{DeclareFault, Kind, NameKind};
 pub use lists::{NumLists, Nums, Sorts, Vars};
 pub use matching::match_term;
 pub use occurrence::{occurs, occurs_in_any};
-pub use renaming::{Renaming, renumber, renumber_all};
+pub use renaming::{Renaming, renumber, renumber_all, renumber_all_own, renumber_own};
 pub use signature::Signature;
 pub use skolems::{SkolemSig, SkolemSigs};
 pub use sorts::sort_of;
 use std::alloc::AllocError;
 pub use subst::{replace, replace_all, subst_term};
-pub use term::{Sym, Term, Terms, Var};
+pub use term::{Sym, Term, Terms, Var, copy_term};
 pub use unused::least_unused;
 
 /// Want of memory.

@@ -3,7 +3,7 @@
 
 ghost use Rattle.std.specs.Prelude.{◌≡◌, IfOk, OnOk};
 ghost use Rattle.soqe_term.specs.World.{changed};
-ghost use Rattle.soqe_term.specs.Renumber.{renames, renumbered, all_renumbered};
+ghost use Rattle.soqe_term.specs.Renumber.{renames, numbered, renumbered, all_renumbered};
 
 use crate::{Mem, Term, Terms, Var};
 use indexmap::IndexMap;
@@ -57,16 +57,21 @@ impl Renaming {
     }
 }
 
+/// The variable with its new number. It takes no memory.
+fn renumber_var(x: Var, by: &Renaming) -> Var
+    ensures { result ≡ numbered x (renames by.now x.num) }
+{
+    let num = by.of(x.num);
+    Var { num, sort: x.sort }
+}
+
 /// The term with its new number for each variable. It allocates each node anew.
 #[cycle(renumber)]
 pub fn renumber(alloc: Global, term: &Term, by: &Renaming) -> Mem<Term>
     ensures { IfOk result (λ r. r ≡ renumbered (renames by.now) term.now) }
 {
     match term {
-        Term::Var(x) => {
-            let num = by.of(x.num);
-            Ok(Term::Var(Var { num, sort: x.sort }))
-        }
+        Term::Var(x) => Ok(Term::Var(renumber_var(*x, by))),
         Term::App(symbol, sort, args) => {
             let args = renumber_all(alloc, args, by)?;
             Ok(Term::App(*symbol, *sort, args))
@@ -85,6 +90,35 @@ pub fn renumber_all(alloc: Global, terms: &Terms, by: &Renaming) -> Mem<Terms>
             let first = renumber(alloc, first.get(), by)?;
             let rest = renumber_all(alloc, rest.get(), by)?;
             Ok(Terms::Cons(Boxed::new(alloc, first)?, Boxed::new(alloc, rest)?))
+        }
+    }
+}
+
+/// The same of a term that is owned. Each box is given back before the one in its place is taken.
+#[cycle(renumber_own)]
+pub fn renumber_own(alloc: Global, term: Boxed<Term>, by: &Renaming) -> Mem<Boxed<Term>>
+    ensures { IfOk result (λ r. r ≡ renumbered (renames by.now) term) }
+{
+    match term.into_inner() {
+        Term::Var(x) => Boxed::new(alloc, Term::Var(renumber_var(x, by))),
+        Term::App(symbol, sort, args) => {
+            let args = renumber_all_own(alloc, args, by)?;
+            Boxed::new(alloc, Term::App(symbol, sort, args))
+        }
+    }
+}
+
+/// The same of terms that are owned. Each box is given back before the one in its place is taken.
+#[cycle(renumber_own)]
+pub fn renumber_all_own(alloc: Global, terms: Terms, by: &Renaming) -> Mem<Terms>
+    ensures { IfOk result (λ r. r ≡ all_renumbered (renames by.now) terms) }
+{
+    match terms {
+        Terms::Nil => Ok(Terms::Nil),
+        Terms::Cons(first, rest) => {
+            let first = renumber_own(alloc, first, by)?;
+            let rest = renumber_all_own(alloc, rest.into_inner(), by)?;
+            Ok(Terms::Cons(first, Boxed::new(alloc, rest)?))
         }
     }
 }

@@ -70,3 +70,11 @@ impl Terms {
         }
     }
 }
+
+/// The boxed form of `copy`.
+pub fn copy_term(alloc: Global, term: &Boxed<Term>) -> Mem<Boxed<Term>>
+    ensures { IfOk result (λ copy. copy ≡ term.now) }
+{
+    let copy = term.get().copy(alloc)?;
+    Boxed::new(alloc, copy)
+}

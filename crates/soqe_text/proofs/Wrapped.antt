@@ -1,31 +1,18 @@
--- Names, uses and formulas of a tree are those of what stands within its negations and parentheses.
-use Rattle.std.specs.Prelude.{ℕ, zero, suc, ◌+◌, ◌≤◌, ◌≡◌, List, Option, refl}
+-- Uses and formulas of a tree are those of what stands within its negations and parentheses.
+use Rattle.std.specs.Prelude.{ℕ, zero, suc, ◌+◌, ◌≤◌, ◌≡◌, List, refl}
 use Rattle.std.proofs.Common.{◌∙◌, ap, arith}
 use Rattle.soqe_syntax.specs.declared.piece.Span.{Span}
 use Rattle.soqe_syntax.specs.Grammar as syntax
-use Rattle.soqe_term.specs.Declarations.{Declaration, Found}
 use Rattle.soqe_form.specs.declared.form.Form.{Form, Not}
 use Rattle.soqe_text.specs.Bare.{Wraps, weight, bare, negated, parened, negations}
 use Rattle.soqe_text.specs.Meanings.{Names}
-use Rattle.soqe_text.specs.Naming.{named}
 use Rattle.soqe_text.specs.Numbering.{numbered_by}
-use Rattle.soqe_text.specs.SpelledForm.{refused}
 use Rattle.soqe_text.specs.Uses.{wrong_by}
 
 pub weight-within : (t u : syntax.Tree Span) (n : ℕ) → Wraps t n u → weight u ≤ weight t
 weight-within t u n bare = omega arith
 weight-within t u n (negated {n = m} w) = let outer = weight-within t (syntax.Not u) m w in omega (arith, outer)
 weight-within t u n (parened w) = let outer = weight-within t (syntax.Paren u) n w in omega (arith, outer)
-
-pub named-within : (bytes : List ℕ) (ds : List Declaration) (vs ps : List ℕ) (t u : syntax.Tree Span) (n : ℕ) → Wraps t n u → named bytes ds vs ps t ≡ named bytes ds vs ps u
-named-within bytes ds vs ps t u n bare = refl
-named-within bytes ds vs ps t u n (negated {n = m} w) = named-within bytes ds vs ps t (syntax.Not u) m w
-named-within bytes ds vs ps t u n (parened w) = named-within bytes ds vs ps t (syntax.Paren u) n w
-
-pub refused-within : (bytes : List ℕ) (look : List ℕ → Option Found) (vs ps : List ℕ) (t u : syntax.Tree Span) (n : ℕ) → Wraps t n u → refused bytes look vs ps t ≡ refused bytes look vs ps u
-refused-within bytes look vs ps t u n bare = refl
-refused-within bytes look vs ps t u n (negated {n = m} w) = refused-within bytes look vs ps t (syntax.Not u) m w
-refused-within bytes look vs ps t u n (parened w) = refused-within bytes look vs ps t (syntax.Paren u) n w
 
 module _ {V P : Type 0} (bytes : List ℕ) (names : Names V P) where
   pub wrong-within : (vs : V) (ps : P) (t u : syntax.Tree Span) (n : ℕ) → Wraps t n u → wrong_by bytes names vs ps t ≡ wrong_by bytes names vs ps u

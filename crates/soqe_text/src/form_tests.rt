@@ -160,9 +160,10 @@ fn refusals(rt: HostRuntime) -> Result<(), Fail> {
 // The formula is an equation between a Skolem function's value and a variable, with these numbers.
 fn is_skolem_of(form: &Form, skolem: u64, variable: u64) -> bool {
     match form {
-        Form::Equal(Term::App(Sym::Skolem(n), _, _), Term::Var(x)) => {
-            *n == skolem && x.num == variable
-        }
+        Form::Equal(left, right) => match (left.get(), right.get()) {
+            (Term::App(Sym::Skolem(n), _, _), Term::Var(x)) => *n == skolem && x.num == variable,
+            _ => false,
+        },
         _ => false,
     }
 }

@@ -1,19 +1,19 @@
 //! The names of a text: the first one that is refused, or else all declarations and names, in the order of the text.
 ghost use Rattle.std.specs.Prelude.{◌≡◌, ◌∷◌, None, Some, Ok, Err, IfOk, OnOk};
 ghost use Rattle.std.specs.Option.{option_or};
+ghost use Rattle.soqe_syntax.specs.Grammar.{Atom, Equation, Bind, Bind2};
 ghost use Rattle.soqe_syntax.specs.Shapes.{view, term_view, terms_view};
 ghost use Rattle.soqe_text.specs.Lookups.{found_by};
 ghost use Rattle.soqe_text.specs.Naming.{is_usable, is_unknown_by, unknown_name_by, unknown_of_by, unknown_in_by, unknown_in_all_by, unknown_sort_by, variable_bound, predicate_bound, named};
 ghost use Rattle.soqe_text.specs.Refused.{OnRefusedAt};
 
-use crate::bare::bare;
 use crate::entering::{enter_predicate, enter_variable};
 use crate::lookup::{Lookup, Meaning, found};
 use crate::new_names::NameFault;
 use crate::refused::Refused;
 use crate::scope::Scope;
 use crate::spans::text;
-use soqe_syntax::{Expr, Exprs, Shape, Span, Spans};
+use soqe_syntax::{Equated, Expr, Exprs, PredicateBinder, Shape, Span, Spans, VariableBinder};
 use soqe_term::Signature;
 
 /// Whether a name may be used.
@@ -208,9 +208,87 @@ fn predicate_bound(
     }
 }
 
+/// The names of an atom.
+#[inline(never)]
+fn named_atom(
+    bytes: &[u8],
+    sig: &Signature,
+    vars: &Scope,
+    preds: &Scope,
+    atom: &Expr,
+) -> Result<(), Refused>
+    ensures ok { OnOk result (named bytes.now sig.now vars.now preds.now (Atom (term_view atom.now)) ≡ Ok sig.now) }
+    ensures refused { OnRefusedAt result (λ at. named bytes.now sig.now vars.now preds.now (Atom (term_view atom.now)) ≡ Err at) }
+{
+    let look = Lookup::Problem(sig);
+    unless_refused(unknown_in(bytes, &look, vars, preds, atom))
+}
+
+/// The names of an equation.
+#[inline(never)]
+fn named_equation(
+    bytes: &[u8],
+    sig: &Signature,
+    vars: &Scope,
+    preds: &Scope,
+    sides: &Equated,
+) -> Result<(), Refused>
+    ensures ok { OnOk result (named bytes.now sig.now vars.now preds.now (Equation sides.now.negated sides.now.sign (term_view sides.now.left) (term_view sides.now.right)) ≡ Ok sig.now) }
+    ensures refused { OnRefusedAt result (λ at. named bytes.now sig.now vars.now preds.now (Equation sides.now.negated sides.now.sign (term_view sides.now.left) (term_view sides.now.right)) ≡ Err at) }
+{
+    let look = Lookup::Problem(sig);
+    unless_refused(unknown_in_two(bytes, &look, vars, preds, &sides.left, &sides.right))
+}
+
+/// The names of a binder of a variable and of the formula below it.
+#[cycle(naming)]
+#[inline(never)]
+fn named_below_variable(
+    bytes: &[u8],
+    sig: &mut Signature,
+    vars: &mut Scope,
+    preds: &mut Scope,
+    binder: &VariableBinder,
+    body: &Shape,
+) -> Result<(), Refused>
+    ensures ok { OnOk result (named bytes.now sig.old vars.old preds.old (Bind binder.now.quantifier binder.now.name binder.now.sort (view body.now)) ≡ Ok sig.new) }
+    ensures vars { OnOk result (vars.new ≡ vars.old) }
+    ensures preds { OnOk result (preds.new ≡ preds.old) }
+    ensures refused { OnRefusedAt result (λ at. named bytes.now sig.old vars.old preds.old (Bind binder.now.quantifier binder.now.name binder.now.sort (view body.now)) ≡ Err at) }
+{
+    let num = variable_bound(bytes, sig, vars, preds, binder.name, binder.sort)?;
+    vars.enter(num)?;
+    named(bytes, sig, vars, preds, body)?;
+    vars.leave()?;
+    Ok(())
+}
+
+/// The names of a binder of a predicate and of the formula below it.
+#[cycle(naming)]
+#[inline(never)]
+fn named_below_predicate(
+    bytes: &[u8],
+    sig: &mut Signature,
+    vars: &mut Scope,
+    preds: &mut Scope,
+    binder: &PredicateBinder,
+    body: &Shape,
+) -> Result<(), Refused>
+    ensures ok { OnOk result (named bytes.now sig.old vars.old preds.old (Bind2 binder.now.quantifier binder.now.name binder.now.sorts (view body.now)) ≡ Ok sig.new) }
+    ensures vars { OnOk result (vars.new ≡ vars.old) }
+    ensures preds { OnOk result (preds.new ≡ preds.old) }
+    ensures refused { OnRefusedAt result (λ at. named bytes.now sig.old vars.old preds.old (Bind2 binder.now.quantifier binder.now.name binder.now.sorts (view body.now)) ≡ Err at) }
+{
+    let num = predicate_bound(bytes, sig, vars, preds, binder.name, &binder.sorts)?;
+    preds.enter(num)?;
+    named(bytes, sig, vars, preds, body)?;
+    preds.leave()?;
+    Ok(())
+}
+
 /// The names of a formula: those that its binders bring join the signature. The error is the first refused name, after
-/// which nothing is known of signature and scopes. The recursion is as deep as the formula without its negations and
-/// parentheses.
+/// which nothing is known of signature and scopes. A loop goes through negations, parentheses and right sides, so the
+/// recursion is as deep as binders and left sides stand within one another.
 #[cycle(naming)]
 pub(crate) fn named(
     bytes: &[u8],
@@ -224,60 +302,24 @@ pub(crate) fn named(
     ensures preds { OnOk result (preds.new ≡ preds.old) }
     ensures refused { OnRefusedAt result (λ at. named bytes.now sig.old vars.old preds.old (view shape.now) ≡ Err at) }
 {
-    let (_negations, inner) = bare(shape);
-    named_bare(bytes, sig, vars, preds, inner)
-}
-
-/// The names of a formula, where no negation and no parenthesis is left round it that a loop goes through.
-#[cycle(naming)]
-fn named_bare(
-    bytes: &[u8],
-    sig: &mut Signature,
-    vars: &mut Scope,
-    preds: &mut Scope,
-    shape: &Shape,
-) -> Result<(), Refused>
-    ensures ok { OnOk result (named bytes.now sig.old vars.old preds.old (view shape.now) ≡ Ok sig.new) }
-    ensures vars { OnOk result (vars.new ≡ vars.old) }
-    ensures preds { OnOk result (preds.new ≡ preds.old) }
-    ensures refused { OnRefusedAt result (λ at. named bytes.now sig.old vars.old preds.old (view shape.now) ≡ Err at) }
-{
-    match shape {
-        Shape::Constant(_) => Ok(()),
-        Shape::Atom(term) => unless_refused(unknown_in(
-            bytes,
-            &Lookup::Problem(&*sig),
-            vars,
-            preds,
-            term,
-        )),
-        Shape::Equation(sides) => unless_refused(unknown_in_two(
-            bytes,
-            &Lookup::Problem(&*sig),
-            vars,
-            preds,
-            &sides.left,
-            &sides.right,
-        )),
-        Shape::Not(body) => named(bytes, sig, vars, preds, body),
-        Shape::Bind(binder, body) => {
-            let num = variable_bound(bytes, sig, vars, preds, binder.name, binder.sort)?;
-            vars.enter(num)?;
-            named(bytes, sig, vars, preds, body)?;
-            vars.leave()?;
-            Ok(())
+    let mut rest = shape;
+    loop {
+        match rest {
+            Shape::Constant(_) => return Ok(()),
+            Shape::Atom(atom) => return named_atom(bytes, sig, vars, preds, atom),
+            Shape::Equation(sides) => return named_equation(bytes, sig, vars, preds, sides),
+            Shape::Bind(binder, body) => {
+                return named_below_variable(bytes, sig, vars, preds, binder, body);
+            }
+            Shape::Bind2(binder, body) => {
+                return named_below_predicate(bytes, sig, vars, preds, binder, body);
+            }
+            Shape::Binary(_, left, right) => {
+                named(bytes, sig, vars, preds, left)?;
+                rest = right;
+            }
+            Shape::Not(body) => rest = body,
+            Shape::Paren(body) => rest = body,
         }
-        Shape::Bind2(binder, body) => {
-            let num = predicate_bound(bytes, sig, vars, preds, binder.name, &binder.sorts)?;
-            preds.enter(num)?;
-            named(bytes, sig, vars, preds, body)?;
-            preds.leave()?;
-            Ok(())
-        }
-        Shape::Binary(_, left, right) => {
-            named(bytes, sig, vars, preds, left)?;
-            named(bytes, sig, vars, preds, right)
-        }
-        Shape::Paren(body) => named(bytes, sig, vars, preds, body),
     }
 }

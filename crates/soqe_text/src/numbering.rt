@@ -2,6 +2,7 @@
 #![tactic(auto, unfolding(soqe_form::specs::Boxes::boxes, soqe_term::specs::Boxes::boxes))]
 
 ghost use Rattle.std.specs.Prelude.{◌≡◌, None, Some, IfOk, OnOk};
+ghost use Rattle.soqe_syntax.specs.Grammar.{Bind, Bind2, Binary, Not};
 ghost use Rattle.soqe_syntax.specs.Shapes.{view, term_view};
 ghost use Rattle.soqe_form.specs.declared.form.Form.{Equal};
 ghost use Rattle.soqe_text.specs.Bare.{negations};
@@ -19,12 +20,15 @@ use crate::spans::text;
 use crate::terms::{numbered_atom, numbered_term};
 use crate::uses::{no_sort_in, num_of, wrong_in_atom, wrong_in_equation, wrong_sort};
 use soqe_form::{Form, PVar, make};
-use soqe_syntax::{Equated, Expr, Operator, Quantifier, Shape, Span};
+use soqe_syntax::{
+    Equated, Expr, Operator, PredicateBinder, Quantifier, Shape, Span, VariableBinder,
+};
 use soqe_term::{Mem, Sorts, Var};
 use sqlite_items::Boxed;
 use std::alloc::Global;
 
 /// An atom, if it is used rightly.
+#[inline(never)]
 fn atom(
     alloc: Global,
     bytes: &[u8],
@@ -55,6 +59,7 @@ fn negated(alloc: Global, is_negated: bool, f: Boxed<Form>) -> Mem<Boxed<Form>>
 }
 
 /// A formula within so many negations.
+#[inline(never)]
 #[tactic(auto, using(crate::proofs::Wrapped::negations_more), unfolding(soqe_form::specs::Boxes::boxes, soqe_term::specs::Boxes::boxes))]
 fn negations(alloc: Global, count: u64, f: Boxed<Form>) -> Mem<Boxed<Form>>
     ensures { IfOk result (λ r. r ≡ negations count f) }
@@ -80,11 +85,12 @@ fn numbered_equation(
 {
     let left = numbered_term(alloc, bytes, look, vars, left)?;
     let right = numbered_term(alloc, bytes, look, vars, right)?;
-    let f = Boxed::new(alloc, Form::Equal(left, right))?;
+    let f = make::equation(alloc, left, right)?;
     Ok(negated(alloc, is_negated, f)?)
 }
 
 /// An equation, if its sides are used rightly.
+#[inline(never)]
 fn equation(
     alloc: Global,
     bytes: &[u8],
@@ -141,6 +147,7 @@ fn quantified_over(
 }
 
 /// A formula with a sign.
+#[inline(never)]
 fn joined(alloc: Global, op: Operator, f: Boxed<Form>, g: Boxed<Form>) -> Mem<Boxed<Form>>
     ensures { IfOk result (λ r. r ≡ joined_by op f g) }
 {
@@ -162,31 +169,119 @@ fn binder_sort(bytes: &[u8], look: &Lookup, sort: Option<Span>) -> u32
     }
 }
 
-/// The formula of a shape, with numbers for its names. The error is the first wrong use of a name, after which nothing is
-/// known of the sorts at the place. The recursion is as deep as the formula without its negations and parentheses.
+/// The formula of a binder of a variable and of the shape below it.
 #[cycle(numbering)]
-pub(crate) fn numbered(
+#[inline(never)]
+#[tactic(auto, using(crate::proofs::Lookups::taken_back), unfolding(soqe_form::specs::Boxes::boxes, soqe_term::specs::Boxes::boxes))]
+fn numbered_over_elements(
     alloc: Global,
     bytes: &[u8],
     look: &Lookup,
     vars: &mut Known<u32>,
     preds: &mut Known<Sorts>,
-    shape: &Shape,
+    binder: &VariableBinder,
+    body: &Shape,
 ) -> Result<Boxed<Form>, Refused>
-    ensures right { OnOk result (wrong_by bytes.now (names_of look.now) (places vars.old) (places preds.old) (view shape.now) ≡ None) }
-    ensures form { IfOk result (λ f. f ≡ numbered_by bytes.now (names_of look.now) (places vars.old) (view shape.now)) }
+    ensures right { OnOk result (wrong_by bytes.now (names_of look.now) (places vars.old) (places preds.old) (Bind binder.now.quantifier binder.now.name binder.now.sort (view body.now)) ≡ None) }
+    ensures form { IfOk result (λ f. f ≡ numbered_by bytes.now (names_of look.now) (places vars.old) (Bind binder.now.quantifier binder.now.name binder.now.sort (view body.now))) }
     ensures vars { OnOk result (places vars.new ≡ places vars.old) }
     ensures preds { OnOk result (places preds.new ≡ places preds.old) }
-    ensures refused { OnRefusedAt result (λ at. wrong_by bytes.now (names_of look.now) (places vars.old) (places preds.old) (view shape.now) ≡ Some at) }
+    ensures refused { OnRefusedAt result (λ at. wrong_by bytes.now (names_of look.now) (places vars.old) (places preds.old) (Bind binder.now.quantifier binder.now.name binder.now.sort (view body.now)) ≡ Some at) }
 {
-    let (count, inner) = bare(shape);
-    let f = numbered_bare(alloc, bytes, look, vars, preds, inner)?;
-    Ok(negations(alloc, count, f)?)
+    match wrong_sort(bytes, look, binder.sort) {
+        Some(at) => Err(Refused::At(at)),
+        None => {
+            let num = num_of(look, text(bytes, binder.name));
+            let sort = binder_sort(bytes, look, binder.sort);
+            let outer = put(vars, num, Some(sort))?;
+            let f = numbered(alloc, bytes, look, vars, preds, body)?;
+            put(vars, num, outer)?;
+            Ok(over_elements(alloc, binder.quantifier, Var { num, sort }, f)?)
+        }
+    }
+}
+
+/// The formula of a binder of a predicate and of the shape below it.
+#[cycle(numbering)]
+#[inline(never)]
+#[tactic(auto, using(crate::proofs::Lookups::taken_back), unfolding(soqe_form::specs::Boxes::boxes, soqe_term::specs::Boxes::boxes))]
+fn numbered_over_tables(
+    alloc: Global,
+    bytes: &[u8],
+    look: &Lookup,
+    vars: &mut Known<u32>,
+    preds: &mut Known<Sorts>,
+    binder: &PredicateBinder,
+    body: &Shape,
+) -> Result<Boxed<Form>, Refused>
+    ensures right { OnOk result (wrong_by bytes.now (names_of look.now) (places vars.old) (places preds.old) (Bind2 binder.now.quantifier binder.now.name binder.now.sorts (view body.now)) ≡ None) }
+    ensures form { IfOk result (λ f. f ≡ numbered_by bytes.now (names_of look.now) (places vars.old) (Bind2 binder.now.quantifier binder.now.name binder.now.sorts (view body.now))) }
+    ensures vars { OnOk result (places vars.new ≡ places vars.old) }
+    ensures preds { OnOk result (places preds.new ≡ places preds.old) }
+    ensures refused { OnRefusedAt result (λ at. wrong_by bytes.now (names_of look.now) (places vars.old) (places preds.old) (Bind2 binder.now.quantifier binder.now.name binder.now.sorts (view body.now)) ≡ Some at) }
+{
+    match no_sort_in(bytes, look, &binder.sorts) {
+        Some(at) => Err(Refused::At(at)),
+        None => {
+            let num = num_of(look, text(bytes, binder.name));
+            let args = sort_numbers(alloc, bytes, look, &binder.sorts)?;
+            let bound = args.copy(alloc)?;
+            let outer = put(preds, num, Some(bound))?;
+            let f = numbered(alloc, bytes, look, vars, preds, body)?;
+            put(preds, num, outer)?;
+            Ok(quantified_over(alloc, binder.quantifier, PVar { num, args }, f)?)
+        }
+    }
+}
+
+/// The formula of a negation.
+#[cycle(numbering)]
+#[inline(never)]
+fn numbered_negation(
+    alloc: Global,
+    bytes: &[u8],
+    look: &Lookup,
+    vars: &mut Known<u32>,
+    preds: &mut Known<Sorts>,
+    body: &Shape,
+) -> Result<Boxed<Form>, Refused>
+    ensures right { OnOk result (wrong_by bytes.now (names_of look.now) (places vars.old) (places preds.old) (Not (view body.now)) ≡ None) }
+    ensures form { IfOk result (λ f. f ≡ numbered_by bytes.now (names_of look.now) (places vars.old) (Not (view body.now))) }
+    ensures vars { OnOk result (places vars.new ≡ places vars.old) }
+    ensures preds { OnOk result (places preds.new ≡ places preds.old) }
+    ensures refused { OnRefusedAt result (λ at. wrong_by bytes.now (names_of look.now) (places vars.old) (places preds.old) (Not (view body.now)) ≡ Some at) }
+{
+    let f = numbered(alloc, bytes, look, vars, preds, body)?;
+    Ok(make::negation(alloc, f)?)
+}
+
+/// The formula of two shapes with a sign between them.
+#[cycle(numbering)]
+#[inline(always)]
+fn numbered_sides(
+    alloc: Global,
+    bytes: &[u8],
+    look: &Lookup,
+    vars: &mut Known<u32>,
+    preds: &mut Known<Sorts>,
+    op: Operator,
+    left: &Shape,
+    right: &Shape,
+) -> Result<Boxed<Form>, Refused>
+    ensures right { OnOk result (wrong_by bytes.now (names_of look.now) (places vars.old) (places preds.old) (Binary op (view left.now) (view right.now)) ≡ None) }
+    ensures form { IfOk result (λ f. f ≡ numbered_by bytes.now (names_of look.now) (places vars.old) (Binary op (view left.now) (view right.now))) }
+    ensures vars { OnOk result (places vars.new ≡ places vars.old) }
+    ensures preds { OnOk result (places preds.new ≡ places preds.old) }
+    ensures refused { OnRefusedAt result (λ at. wrong_by bytes.now (names_of look.now) (places vars.old) (places preds.old) (Binary op (view left.now) (view right.now)) ≡ Some at) }
+{
+    let f = numbered(alloc, bytes, look, vars, preds, left)?;
+    let g = numbered(alloc, bytes, look, vars, preds, right)?;
+    Ok(joined(alloc, op, f, g)?)
 }
 
 /// The formula of a shape, where no negation and no parenthesis is left round it that a loop goes through.
 #[cycle(numbering)]
-#[tactic(auto, using(crate::proofs::Lookups::taken_back), unfolding(soqe_form::specs::Boxes::boxes, soqe_term::specs::Boxes::boxes))]
+#[inline(always)]
 fn numbered_bare(
     alloc: Global,
     bytes: &[u8],
@@ -205,38 +300,39 @@ fn numbered_bare(
         Shape::Constant(value) => Ok(make::constant(alloc, *value)?),
         Shape::Atom(expr) => atom(alloc, bytes, look, vars, preds, expr),
         Shape::Equation(sides) => equation(alloc, bytes, look, vars, sides),
-        Shape::Not(body) => {
-            let f = numbered(alloc, bytes, look, vars, preds, body)?;
-            Ok(make::negation(alloc, f)?)
+        Shape::Not(body) => numbered_negation(alloc, bytes, look, vars, preds, body),
+        Shape::Bind(binder, body) => {
+            numbered_over_elements(alloc, bytes, look, vars, preds, binder, body)
         }
-        Shape::Bind(binder, body) => match wrong_sort(bytes, look, binder.sort) {
-            Some(at) => Err(Refused::At(at)),
-            None => {
-                let num = num_of(look, text(bytes, binder.name));
-                let sort = binder_sort(bytes, look, binder.sort);
-                let outer = put(vars, num, Some(sort))?;
-                let f = numbered(alloc, bytes, look, vars, preds, body)?;
-                put(vars, num, outer)?;
-                Ok(over_elements(alloc, binder.quantifier, Var { num, sort }, f)?)
-            }
-        },
-        Shape::Bind2(binder, body) => match no_sort_in(bytes, look, &binder.sorts) {
-            Some(at) => Err(Refused::At(at)),
-            None => {
-                let num = num_of(look, text(bytes, binder.name));
-                let args = sort_numbers(alloc, bytes, look, &binder.sorts)?;
-                let bound = args.copy(alloc)?;
-                let outer = put(preds, num, Some(bound))?;
-                let f = numbered(alloc, bytes, look, vars, preds, body)?;
-                put(preds, num, outer)?;
-                Ok(quantified_over(alloc, binder.quantifier, PVar { num, args }, f)?)
-            }
-        },
+        Shape::Bind2(binder, body) => {
+            numbered_over_tables(alloc, bytes, look, vars, preds, binder, body)
+        }
         Shape::Binary(op, left, right) => {
-            let f = numbered(alloc, bytes, look, vars, preds, left)?;
-            let g = numbered(alloc, bytes, look, vars, preds, right)?;
-            Ok(joined(alloc, *op, f, g)?)
+            numbered_sides(alloc, bytes, look, vars, preds, *op, left, right)
         }
         Shape::Paren(body) => numbered(alloc, bytes, look, vars, preds, body),
     }
+}
+
+/// The formula of a shape, with numbers for its names. The error is the first wrong use of a name, after which nothing is
+/// known of the sorts at the place. The recursion is as deep as the formula without its negations and parentheses, and
+/// takes one frame for a sign between two sides.
+#[cycle(numbering)]
+pub(crate) fn numbered(
+    alloc: Global,
+    bytes: &[u8],
+    look: &Lookup,
+    vars: &mut Known<u32>,
+    preds: &mut Known<Sorts>,
+    shape: &Shape,
+) -> Result<Boxed<Form>, Refused>
+    ensures right { OnOk result (wrong_by bytes.now (names_of look.now) (places vars.old) (places preds.old) (view shape.now) ≡ None) }
+    ensures form { IfOk result (λ f. f ≡ numbered_by bytes.now (names_of look.now) (places vars.old) (view shape.now)) }
+    ensures vars { OnOk result (places vars.new ≡ places vars.old) }
+    ensures preds { OnOk result (places preds.new ≡ places preds.old) }
+    ensures refused { OnRefusedAt result (λ at. wrong_by bytes.now (names_of look.now) (places vars.old) (places preds.old) (view shape.now) ≡ Some at) }
+{
+    let (count, inner) = bare(shape);
+    let f = numbered_bare(alloc, bytes, look, vars, preds, inner)?;
+    Ok(negations(alloc, count, f)?)
 }

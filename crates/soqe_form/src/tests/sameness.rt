@@ -28,7 +28,9 @@ fn table(alloc: Global, num: u64, sort: u32) -> Mem<PVar> {
 fn equation(alloc: Global, num: u64, function: u32) -> Mem<Boxed<Form>> {
     let arg = arg(alloc, num)?;
     let value = Term::App(Sym::Fun(function), 0, arg);
-    Boxed::new(alloc, Form::Equal(value, var(num)))
+    let left = Boxed::new(alloc, value)?;
+    let right = Boxed::new(alloc, var(num))?;
+    Boxed::new(alloc, Form::Equal(left, right))
 }
 
 fn atom(alloc: Global, num: u64, pred: Pred) -> Mem<Boxed<Form>> {

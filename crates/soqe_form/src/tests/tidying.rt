@@ -1,6 +1,7 @@
 //! Tidy forms of formulas written by hand.
+use super::{equation, sides};
 use crate::{Form, PVar, Pred, make, tidy};
-use soqe_term::{Mem, Nums, Sorts, Term, Terms, Var};
+use soqe_term::{Mem, Nums, Sorts, Terms, Var};
 use sqlite_items::Boxed;
 use std::alloc::Global;
 use std::test::Fail;
@@ -12,18 +13,17 @@ fn variable(num: u64) -> Var {
 /// `all x. all y. m = n`, by the numbers of its two binders and its two variables.
 fn quantified(alloc: Global, nums: [u64; 4]) -> Mem<Boxed<Form>> {
     let [x, y, m, n] = nums;
-    let body = Form::Equal(Term::Var(variable(m)), Term::Var(variable(n)));
-    let body = Boxed::new(alloc, body)?;
+    let body = equation(alloc, m, n)?;
     let body = make::for_all(alloc, variable(y), body)?;
     make::for_all(alloc, variable(x), body)
 }
 
 fn numbers_below(x: Var, form: &Form) -> Option<[u64; 4]> {
     match form {
-        Form::All(y, body) => match body.get() {
-            Form::Equal(Term::Var(m), Term::Var(n)) => Some([x.num, y.num, m.num, n.num]),
-            _ => None,
-        },
+        Form::All(y, body) => {
+            let (m, n) = sides(body.get())?;
+            Some([x.num, y.num, m, n])
+        }
         _ => None,
     }
 }
@@ -40,7 +40,7 @@ fn numbers(form: &Form) -> Option<[u64; 4]> {
 fn becomes(alloc: Global, old: [u64; 4], keep: &[u64], new: [u64; 4]) -> Mem<bool> {
     let keep = Nums::from_vec(keep.to_vec(alloc)?);
     let form = quantified(alloc, old)?;
-    let form = tidy(alloc, form.get(), &keep)?;
+    let form = tidy(alloc, form, &keep)?;
     Ok(numbers(form.get()) == Some(new))
 }
 
@@ -82,23 +82,17 @@ fn binders_of_predicates_stay(rt: HostRuntime) -> Result<(), Fail> {
         args: Sorts::new(alloc),
     };
     let block = make::exists_table(alloc, pred, atom)?;
-    let block = tidy(alloc, block.get(), &Nums::new(alloc))?;
+    let block = tidy(alloc, block, &Nums::new(alloc))?;
     assert!(rt; is_block(block.get()));
     Ok(())
 }
 
 /// `all x.` before the conjunction of `n = n` for each number below the count but the one left out, and of `x = x`.
 fn over_many(alloc: Global, x: u64, count: u64, left_out: u64) -> Mem<Boxed<Form>> {
-    let mut body = Boxed::new(
-        alloc,
-        Form::Equal(Term::Var(variable(x)), Term::Var(variable(x))),
-    )?;
+    let mut body = equation(alloc, x, x)?;
     for n in 0..count {
         if n != left_out {
-            let next = Boxed::new(
-                alloc,
-                Form::Equal(Term::Var(variable(n)), Term::Var(variable(n))),
-            )?;
+            let next = equation(alloc, n, n)?;
             body = make::conjunction(alloc, body, next)?;
         }
     }
@@ -119,7 +113,7 @@ fn a_binder_over_many_free_variables_has_the_least_other_number(
     ];
     for (count, left_out, new) in cases {
         let form = over_many(alloc, 200, count, left_out)?;
-        let form = tidy(alloc, form.get(), &Nums::new(alloc))?;
+        let form = tidy(alloc, form, &Nums::new(alloc))?;
         match form.get() {
             Form::All(x, _) => assert!(rt; x.num == new),
             _ => assert!(rt; false),

@@ -1,6 +1,7 @@
 //! Free variables, sorting and substitution on formulas written by hand.
 ghost use Rattle.std.specs.Prelude.{◌≡◌};
 
+use super::{equation, sides};
 use crate::{Form, PVars, free_vars, make, subst, well_sorted};
 use soqe_term::{Mem, Signature, SkolemSigs, Term, Var, Vars};
 use sqlite_items::Boxed;
@@ -13,24 +14,20 @@ fn var(num: u64) -> Var
     Var { num, sort: 0 }
 }
 
-fn equal(alloc: Global, m: u64, n: u64) -> Mem<Boxed<Form>> {
-    Boxed::new(alloc, Form::Equal(Term::Var(var(m)), Term::Var(var(n))))
-}
-
 /// `x1 = x2 & all x1. x1 = x3`
 fn with_binder(alloc: Global) -> Mem<Boxed<Form>> {
-    let left = equal(alloc, 1, 2)?;
-    let right = make::for_all(alloc, var(1), equal(alloc, 1, 3)?)?;
+    let left = equation(alloc, 1, 2)?;
+    let right = make::for_all(alloc, var(1), equation(alloc, 1, 3)?)?;
     make::conjunction(alloc, left, right)
 }
 
 /// The number of a quantified equation's binder and of its two variables.
 fn numbers(form: &Form) -> Option<(u64, u64, u64)> {
     match form {
-        Form::All(x, body) => match body.get() {
-            Form::Equal(Term::Var(y), Term::Var(z)) => Some((x.num, y.num, z.num)),
-            _ => None,
-        },
+        Form::All(x, body) => {
+            let (y, z) = sides(body.get())?;
+            Some((x.num, y, z))
+        }
         _ => None,
     }
 }
@@ -47,7 +44,7 @@ fn free_variables_are_listed_once(rt: HostRuntime) -> Result<(), Fail> {
 #[test]
 fn a_binder_is_renamed_where_it_would_catch(rt: HostRuntime) -> Result<(), Fail> {
     let alloc = rt.alloc();
-    let form = make::for_all(alloc, var(1), equal(alloc, 0, 1)?)?;
+    let form = make::for_all(alloc, var(1), equation(alloc, 0, 1)?)?;
     let renamed = subst(alloc, form.get(), var(0), &Term::Var(var(1)))?;
     assert!(rt; numbers(renamed.get()) == Some((2, 1, 2)));
     let kept = subst(alloc, form.get(), var(0), &Term::Var(var(3)))?;

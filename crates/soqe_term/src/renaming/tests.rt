@@ -1,5 +1,5 @@
 //! A term under other numbers.
-use crate::{Mem, Renaming, Sym, Term, Terms, Var, renumber};
+use crate::{Mem, Renaming, Sym, Term, Terms, Var, renumber, renumber_own};
 use sqlite_items::Boxed;
 use std::alloc::Global;
 use std::test::Fail;
@@ -45,5 +45,7 @@ fn a_number_without_an_entry_stays(rt: HostRuntime) -> Result<(), Fail> {
     let term = pair(alloc)?;
     let renumbered = renumber(alloc, &term, &by)?;
     assert!(rt; is_pair(&renumbered, &[5, 1]));
+    let renumbered = renumber_own(alloc, Boxed::new(alloc, term)?, &by)?;
+    assert!(rt; is_pair(renumbered.get(), &[5, 1]));
     Ok(())
 }

@@ -2,8 +2,8 @@ use Rattle.std.proofs.Common.{map, ◌∙◌, ap, subst}
 use Rattle.std.specs.Prelude.{◌≡◌, IfOk}
 use Rattle.soqe_form.specs.declared.form.Form.{Form}
 use Rattle.soqe_norm.specs.Folds.{all_of}
+use Rattle.soqe_norm.proofs.Joins.{joined_all}
 use Rattle.soqe_ack.specs.Divides.{share_form}
-use Rattle.soqe_ack.proofs.Joins.{joined_all}
 use Rattle.soqe_ack.proofs.applying.joined.Goals as goal
 
 pub returns : goal.returns

@@ -6,4 +6,4 @@ use Rattle.soqe_dls.proofs.elimination.write_case.Goals as goal
 
 pub write_try-requires : goal.write_try-requires
 write_try-requires c =
-    tried-distinct (subst (λ (o : Option Tried). IsFirstTry c.args.pred.now c.args.keep.now c.in_ok-tidied.tidied.case.vars c.in_ok-tidied.tidied.case.conj o) c.in-Some.is c.in_ok-tried.ensures.exact)
+    tried-distinct (subst (λ (o : Option Tried). IsFirstTry c.args.pred.now c.args.keep.now c.in_ok-case.case.vars c.in_ok-case.case.conj o) c.in-Some.is c.in_ok-tried.ensures.exact)

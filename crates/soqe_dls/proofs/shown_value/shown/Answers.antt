@@ -24,6 +24,6 @@ returns c = record {
       subst (λ (xs : List Var). AreParameters (λ n. member n c.args.keep.now || (free n c.args.value.now && not (is_among c.args.params.now n))) (map (λ x. x.sort) xs) c.in_ok-new.new) c.as_slice.ensures
       (subst (λ (u : ℕ → Bool). AreParameters u (map (λ x. x.sort) c.as_slice.result.now) c.in_ok-new.new) c.in_ok-used.ensures c.in_ok-new.ensures);
   shown =
-      c.in_ok-tidied.ensures ∙ ap (tidy c.args.keep.now) (c.get.ensures ∙ c.in_ok-replaced.ensures.exact
+      c.in_ok-tidied.ensures ∙ ap (tidy c.args.keep.now) (c.in_ok-replaced.ensures.exact
       ∙ ap (λ s. sub (depth c.args.value.now) s c.args.value.now) (c.in_ok-binding.ensures ∙ (λ i. by_vars (c.as_slice-2.ensures i) (c.as_slice-3.ensures i))));
 }

@@ -1,12 +1,12 @@
 use Rattle.std.proofs.Common.{◌++◌, ◌∙◌, ap, sym, ⊎_elim}
 use Rattle.soqe_form.specs.Boxes.{boxes}
-use Rattle.soqe_form.specs.FreeVars.{free_occurrences}
+use Rattle.soqe_form.specs.FreeVars.{occurrences, free_occurrences}
 use Rattle.soqe_form.proofs.NumbersListed.{lists-both, lists-below}
 use Rattle.soqe_form.proofs.free_numbers.+list.Goals as goal
 
 pub list-returns-in_ok-list_term-in-Equal-2 : goal.list-returns-in_ok-list_term-in-Equal-2
 list-returns-in_ok-list_term-in-Equal-2 t c =
-    lists-both _ _ _ _ _ _ _ _ _ _ _ (ap free_occurrences c.in-Equal.is) c.in_ok-list_term-in-Equal.ensures c.in_ok-list_term-in-Equal-2.ensures
+    lists-both _ _ _ _ _ _ _ _ _ _ _ (ap free_occurrences c.in-Equal.is ∙ sym (λ i. occurrences (c.get.ensures i) ++ occurrences (c.get-in-Equal.ensures i))) c.in_ok-list_term-in-Equal.ensures c.in_ok-list_term-in-Equal-2.ensures
 
 pub list-returns-in_ok-list-in-And-2 : goal.list-returns-in_ok-list-in-And-2
 unfolding boxes

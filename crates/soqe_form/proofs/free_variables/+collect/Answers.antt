@@ -1,6 +1,6 @@
 use Rattle.std.proofs.Common.{◌++◌, ◌∙◌, ap, sym, refl, ⊎_elim}
 use Rattle.soqe_form.specs.Boxes.{boxes}
-use Rattle.soqe_form.specs.FreeVars.{free_occurrences}
+use Rattle.soqe_form.specs.FreeVars.{occurrences, free_occurrences}
 use Rattle.soqe_form.specs.Marks.{marked}
 use Rattle.soqe_term.specs.World.{changed}
 use Rattle.soqe_form.proofs.FreeVariables.{collects-both, collects-below}
@@ -8,7 +8,7 @@ use Rattle.soqe_form.proofs.free_variables.+collect.Goals as goal
 
 pub collect-returns-in_ok-collect_term-in-Equal-2 : goal.collect-returns-in_ok-collect_term-in-Equal-2
 collect-returns-in_ok-collect_term-in-Equal-2 t c =
-    collects-both _ _ _ _ _ _ (ap free_occurrences c.in-Equal.is) c.in_ok-collect_term-in-Equal.ensures c.in_ok-collect_term-in-Equal-2.ensures
+    collects-both _ _ _ _ _ _ (ap free_occurrences c.in-Equal.is ∙ sym (λ i. occurrences (c.get.ensures i) ++ occurrences (c.get-in-Equal.ensures i))) c.in_ok-collect_term-in-Equal.ensures c.in_ok-collect_term-in-Equal-2.ensures
 
 pub collect-returns-in_ok-collect-in-And-2 : goal.collect-returns-in_ok-collect-in-And-2
 unfolding boxes

@@ -7,7 +7,8 @@ use Rattle.soqe_form.proofs.names.+mark_form.Goals as goal
 
 pub returns-in_ok-mark_term-in-Equal-2 : goal.returns-in_ok-mark_term-in-Equal-2
 returns-in_ok-mark_term-in-Equal-2 t c =
-    adds-two (λ n. occurs n c.in-Equal.s) (λ n. occurs n c.in-Equal.t) _ _ _ _ (λ n. ap (mentions n) c.in-Equal.is)
+    adds-two (λ n. occurs n c.get.result.now) (λ n. occurs n c.get-in-Equal.result.now) _ _ _ _
+    (λ n. ap (mentions n) c.in-Equal.is ∙ sym (λ i. occurs n (c.get.ensures i) || occurs n (c.get-in-Equal.ensures i)))
     c.in_ok-mark_term-in-Equal.ensures c.in_ok-mark_term-in-Equal-2.ensures
 
 pub returns-in_ok-mark_terms-in-Atom : goal.returns-in_ok-mark_terms-in-Atom
@@ -19,8 +20,8 @@ returns-in-True t c = adds-same (λ n. false) _ _ _ (λ n. ⊎_elim (λ e. ap (m
 pub returns-in_ok-mark_form-in-All : goal.returns-in_ok-mark_form-in-All
 unfolding boxes
 returns-in_ok-mark_form-in-All t c =
-    adds-two (λ n. eqb n c.in-All.x.num) (λ n. mentions n c.get.result.now) _ _ _ _
-    (λ n. ⊎_elim (λ e. ap (mentions n) e) (λ e. ap (mentions n) e) c.in-All.is ∙ sym (λ i. eqb n c.in-All.x.num || mentions n (c.get.ensures i)))
+    adds-two (λ n. eqb n c.in-All.x.num) (λ n. mentions n c.get-in-All.result.now) _ _ _ _
+    (λ n. ⊎_elim (λ e. ap (mentions n) e) (λ e. ap (mentions n) e) c.in-All.is ∙ sym (λ i. eqb n c.in-All.x.num || mentions n (c.get-in-All.ensures i)))
     (adds-one _ _ c.in-All.x.num c.in_ok-set-in-All.ensures) c.in_ok-mark_form-in-All.ensures
 
 pub returns-in_ok-mark_form-in-Not : goal.returns-in_ok-mark_form-in-Not

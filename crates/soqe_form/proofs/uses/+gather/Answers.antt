@@ -1,12 +1,12 @@
-use Rattle.std.proofs.Common.{sym, subst}
+use Rattle.std.proofs.Common.{◌∙◌, sym, subst}
 use Rattle.soqe_form.specs.Boxes.{boxes}
-use Rattle.soqe_form.specs.declared.form.Form.{And, All}
+use Rattle.soqe_form.specs.declared.form.Form.{Equal, And, All}
 use Rattle.soqe_form.specs.Uses.{Gathers}
 use Rattle.soqe_form.proofs.UsesCounted.{gathers-equal, gathers-and, gathers-two, gathers-below}
 use Rattle.soqe_form.proofs.uses.+gather.Goals as goal
 
 pub gather-returns-in_ok-right-in-Equal : goal.gather-returns-in_ok-right-in-Equal
-gather-returns-in_ok-right-in-Equal t c = gathers-equal _ _ _ _ _ _ _ c.in-Equal.is c.in_ok-left-in-Equal.ensures c.in_ok-right-in-Equal.ensures
+gather-returns-in_ok-right-in-Equal t c = gathers-equal _ _ _ _ _ _ _ (c.in-Equal.is ∙ sym (λ i. Equal (c.get.ensures i) (c.get-in-Equal.ensures i))) c.in_ok-left-in-Equal.ensures c.in_ok-right-in-Equal.ensures
 
 pub gather-returns-in_ok-push_split-in-And : goal.gather-returns-in_ok-push_split-in-And
 unfolding boxes

@@ -3,11 +3,11 @@ use Rattle.std.proofs.lemmas.Result.{IfOk-weaker}
 use Rattle.soqe_form.specs.declared.form.Form.{Form, Not, Imp}
 use Rattle.soqe_simp.specs.Weight.{weight}
 use Rattle.soqe_simp.specs.Simplified.{on_children, simplify}
-use Rattle.soqe_simp.specs.Ready.{IsSimple}
+use Rattle.soqe_simp.specs.Ready.{IsSimple, IsBelow}
 use Rattle.soqe_simp.specs.Finished.{finished}
 use Rattle.soqe_simp.proofs.Simplifies.{simplify-keeps}
 use Rattle.soqe_simp.proofs.Simple.{children-simplified-weigh, simplify-simple, simple-stays}
-use Rattle.soqe_simp.proofs.Settled.{children-made_simple, simplify-children, not-lighter, not-ready, not-simplified, first-lighter, first-ready, imp-lighter, imp-ready, imp-simplified}
+use Rattle.soqe_simp.proofs.Settled.{children-made_simple, simplify-children, not-lighter, not-ready, not-simplified, imp-lighter, imp-ready, imp-simplified, below-default}
 use Rattle.soqe_simp.proofs.Finished.{settled-same, finished-simple, stepped-ready, stepped-lighter}
 use Rattle.soqe_form.specs.Counts.{counted}
 use Rattle.soqe_simp.specs.declared.chains.Quantifier.{Quantifier}
@@ -17,7 +17,6 @@ use Rattle.soqe_simp.specs.Chains.{quantified, quantify}
 use Rattle.soqe_simp.specs.Known.{Learns, PutsBack}
 use Rattle.soqe_simp.proofs.Quantified.{children-quantified, weight-popped, put_front-step, put_front-end, chain-whole, chain-weighs, chain-simplified, simplify-quantified, weight-quantify}
 use Rattle.soqe_simp.proofs.Knowing.{each-place, last-place_of, last-knows, others-place, knows-learned, puts-none, puts-passed, puts-settled, puts-learned}
-use Rattle.soqe_simp.proofs.TakenApart.{denied-not, condition-imp, conclusion-imp}
 use Rattle.soqe_simp.proofs.simplifying.+simplify.Goals as goal
 
 pub settle-finish-requires : goal.settle-finish-requires
@@ -35,70 +34,53 @@ settle-returns t c =
 
 pub settle_first-finish-requires : goal.settle_first-finish-requires
 settle_first-finish-requires t c =
-    let form : c.args.form ≡ Not c.in-Not.field-0 = sym c.get.ensures ∙ c.in-Not.is in
-    let first : c.in_ok-a-in-Not.a ≡ c.in-Not.field-0 = denied-not c.args.form c.in-Not.field-0 c.in_ok-a-in-Not.a form c.in_ok-a-in-Not.ensures in
-    let now : Form = Not c.in_ok-a-in-Not-2.a in
-    let lighter : weight now ≤ weight c.args.form =
-    not-lighter c.args.form c.in-Not.field-0 c.in_ok-a-in-Not.a c.in_ok-a-in-Not-2.a form first c.in_ok-a-in-Not-2.ensures in (
-      omega (arith, lighter, stepped-lighter now c.in_ok-stepped-in-Not.stepped c.in_ok-stepped-in-Not.ensures),
-      stepped-ready now c.in_ok-stepped-in-Not.stepped (not-ready c.in_ok-a-in-Not.a c.in_ok-a-in-Not-2.a c.in_ok-a-in-Not-2.ensures) c.in_ok-stepped-in-Not.ensures,
+    let form : c.args.form ≡ Not c.in-Not.a = sym c.into_inner.ensures ∙ c.in-Not.is in
+    let now : Form = Not c.in_ok-a-in-Not.a in (
+      omega (
+        arith,
+        not-lighter c.args.form c.in-Not.a c.in_ok-a-in-Not.a form c.in_ok-a-in-Not.ensures,
+        stepped-lighter now c.in_ok-stepped-in-Not.stepped c.in_ok-stepped-in-Not.ensures,
+      ),
+      stepped-ready now c.in_ok-stepped-in-Not.stepped (not-ready c.in-Not.a c.in_ok-a-in-Not.a c.in_ok-a-in-Not.ensures) c.in_ok-stepped-in-Not.ensures,
     )
 
 pub settle_first-returns-in_ok-stepped-in-Not : goal.settle_first-returns-in_ok-stepped-in-Not
 settle_first-returns-in_ok-stepped-in-Not t c =
-    let form : c.args.form ≡ Not c.in-Not.field-0 = sym c.get.ensures ∙ c.in-Not.is in
-    let first : c.in_ok-a-in-Not.a ≡ c.in-Not.field-0 = denied-not c.args.form c.in-Not.field-0 c.in_ok-a-in-Not.a form c.in_ok-a-in-Not.ensures in
-    let now : Form = Not c.in_ok-a-in-Not-2.a in
+    let form : c.args.form ≡ Not c.in-Not.a = sym c.into_inner.ensures ∙ c.in-Not.is in
+    let now : Form = Not c.in_ok-a-in-Not.a in
     IfOk-weaker c.finish.result (λ r. r ≡ finished c.in_ok-stepped-in-Not.stepped) (λ r. r ≡ simplify c.args.form)
-    (λ r e. not-simplified c.args.form c.in-Not.field-0 c.in_ok-a-in-Not.a c.in_ok-a-in-Not-2.a r form first c.in_ok-a-in-Not-2.ensures
-    (finished-simple now c.in_ok-stepped-in-Not.stepped r (not-ready c.in_ok-a-in-Not.a c.in_ok-a-in-Not-2.a c.in_ok-a-in-Not-2.ensures) c.in_ok-stepped-in-Not.ensures e))
+    (λ r e. not-simplified c.args.form c.in-Not.a c.in_ok-a-in-Not.a r form c.in_ok-a-in-Not.ensures
+    (finished-simple now c.in_ok-stepped-in-Not.stepped r (not-ready c.in-Not.a c.in_ok-a-in-Not.a c.in_ok-a-in-Not.ensures) c.in_ok-stepped-in-Not.ensures e))
     c.finish.ensures
 
 -- ---- A -> D
 
-pub settle_first-settle-requires-in-Imp : goal.settle_first-settle-requires-in-Imp
-settle_first-settle-requires-in-Imp t c =
-    let form : c.args.form ≡ Imp c.in-Imp.field-0 c.in-Imp.field-1 = sym c.get.ensures ∙ c.in-Imp.is in
-    let first : c.in_ok-parts-in-Imp.parts.condition ≡ c.in-Imp.field-0 =
-    condition-imp c.args.form c.in-Imp.field-0 c.in-Imp.field-1 c.in_ok-parts-in-Imp.parts form c.in_ok-parts-in-Imp.ensures in
-    let lighter : weight c.in_ok-parts-in-Imp.parts.condition < weight c.args.form =
-    first-lighter c.args.form c.in-Imp.field-0 c.in-Imp.field-1 c.in_ok-parts-in-Imp.parts.condition form first in
-    (omega (arith, lighter), first-ready c.args.form c.in-Imp.field-0 c.in-Imp.field-1 c.in_ok-parts-in-Imp.parts.condition c.requires form first)
-
 pub settle_first-finish-requires-in-Imp : goal.settle_first-finish-requires-in-Imp
 settle_first-finish-requires-in-Imp t c =
-    let form : c.args.form ≡ Imp c.in-Imp.field-0 c.in-Imp.field-1 = sym c.get.ensures ∙ c.in-Imp.is in
-    let first : c.in_ok-parts-in-Imp.parts.condition ≡ c.in-Imp.field-0 =
-    condition-imp c.args.form c.in-Imp.field-0 c.in-Imp.field-1 c.in_ok-parts-in-Imp.parts form c.in_ok-parts-in-Imp.ensures in
-    let second : c.in_ok-parts-in-Imp.parts.conclusion ≡ c.in-Imp.field-1 =
-    conclusion-imp c.args.form c.in-Imp.field-0 c.in-Imp.field-1 c.in_ok-parts-in-Imp.parts form c.in_ok-parts-in-Imp.ensures in
-    let now : Form = Imp c.in_ok-a-in-Imp.a c.in_ok-parts-in-Imp.parts.conclusion in
-    let lighter : weight now ≤ weight c.args.form =
-    imp-lighter c.args.form c.in-Imp.field-0 c.in-Imp.field-1 c.in_ok-parts-in-Imp.parts.condition c.in_ok-a-in-Imp.a c.in_ok-parts-in-Imp.parts.conclusion
-    form first c.in_ok-a-in-Imp.ensures second in (
-      omega (arith, lighter, stepped-lighter now c.in_ok-stepped-in-Imp.stepped c.in_ok-stepped-in-Imp.ensures),
+    let form : c.args.form ≡ Imp c.in-Imp.a c.in-Imp.d = sym c.into_inner.ensures ∙ c.in-Imp.is in
+    let now : Form = Imp c.in_ok-a-in-Imp.a c.in-Imp.d in (
+      omega (
+        arith,
+        imp-lighter c.args.form c.in-Imp.a c.in-Imp.d c.in_ok-a-in-Imp.a form c.in_ok-a-in-Imp.ensures,
+        stepped-lighter now c.in_ok-stepped-in-Imp.stepped c.in_ok-stepped-in-Imp.ensures,
+      ),
       stepped-ready now c.in_ok-stepped-in-Imp.stepped
-          (imp-ready c.args.form c.in-Imp.field-0 c.in-Imp.field-1 c.in_ok-parts-in-Imp.parts.condition c.in_ok-a-in-Imp.a c.in_ok-parts-in-Imp.parts.conclusion
-          c.requires form c.in_ok-a-in-Imp.ensures second)
-          c.in_ok-stepped-in-Imp.ensures,
+          (imp-ready c.args.form c.in-Imp.a c.in-Imp.d c.in_ok-a-in-Imp.a c.requires form c.in_ok-a-in-Imp.ensures) c.in_ok-stepped-in-Imp.ensures,
     )
 
 pub settle_first-returns-in_ok-stepped-in-Imp : goal.settle_first-returns-in_ok-stepped-in-Imp
 settle_first-returns-in_ok-stepped-in-Imp t c =
-    let form : c.args.form ≡ Imp c.in-Imp.field-0 c.in-Imp.field-1 = sym c.get.ensures ∙ c.in-Imp.is in
-    let first : c.in_ok-parts-in-Imp.parts.condition ≡ c.in-Imp.field-0 =
-    condition-imp c.args.form c.in-Imp.field-0 c.in-Imp.field-1 c.in_ok-parts-in-Imp.parts form c.in_ok-parts-in-Imp.ensures in
-    let second : c.in_ok-parts-in-Imp.parts.conclusion ≡ c.in-Imp.field-1 =
-    conclusion-imp c.args.form c.in-Imp.field-0 c.in-Imp.field-1 c.in_ok-parts-in-Imp.parts form c.in_ok-parts-in-Imp.ensures in
-    let now : Form = Imp c.in_ok-a-in-Imp.a c.in_ok-parts-in-Imp.parts.conclusion in
+    let form : c.args.form ≡ Imp c.in-Imp.a c.in-Imp.d = sym c.into_inner.ensures ∙ c.in-Imp.is in
+    let now : Form = Imp c.in_ok-a-in-Imp.a c.in-Imp.d in
     IfOk-weaker c.finish-in-Imp.result (λ r. r ≡ finished c.in_ok-stepped-in-Imp.stepped) (λ r. r ≡ simplify c.args.form)
-    (λ r e. imp-simplified c.args.form c.in-Imp.field-0 c.in-Imp.field-1 c.in_ok-parts-in-Imp.parts.condition c.in_ok-a-in-Imp.a c.in_ok-parts-in-Imp.parts.conclusion r
-    c.requires form first c.in_ok-a-in-Imp.ensures second
+    (λ r e. imp-simplified c.args.form c.in-Imp.a c.in-Imp.d c.in_ok-a-in-Imp.a r c.requires form c.in_ok-a-in-Imp.ensures
     (finished-simple now c.in_ok-stepped-in-Imp.stepped r
-    (imp-ready c.args.form c.in-Imp.field-0 c.in-Imp.field-1 c.in_ok-parts-in-Imp.parts.condition c.in_ok-a-in-Imp.a c.in_ok-parts-in-Imp.parts.conclusion
-    c.requires form c.in_ok-a-in-Imp.ensures second)
-    c.in_ok-stepped-in-Imp.ensures e))
+    (imp-ready c.args.form c.in-Imp.a c.in-Imp.d c.in_ok-a-in-Imp.a c.requires form c.in_ok-a-in-Imp.ensures) c.in_ok-stepped-in-Imp.ensures e))
     c.finish-in-Imp.ensures
+
+pub settle_first-unreachable-requires : goal.settle_first-unreachable-requires
+settle_first-unreachable-requires t c =
+    below-default c.into_inner.result (subst IsBelow (sym c.into_inner.ensures) c.requires) c.in_default.not-Not c.in_default.not-Imp
 
 pub settle_made-returns : goal.settle_made-returns
 settle_made-returns t c =
@@ -109,16 +91,16 @@ settle_made-returns t c =
 
 pub simplify_node-finish-requires : goal.simplify_node-finish-requires
 simplify_node-finish-requires t c =
-    let now : Form = on_children simplify c.args.form.now in (
-      omega (arith, children-simplified-weigh c.args.form.now, stepped-lighter now c.in_ok-stepped.stepped c.in_ok-stepped.ensures),
-      stepped-ready now c.in_ok-stepped.stepped (children-made_simple c.args.form.now) c.in_ok-stepped.ensures,
+    let now : Form = on_children simplify c.args.form in (
+      omega (arith, children-simplified-weigh c.args.form, stepped-lighter now c.in_ok-stepped.stepped c.in_ok-stepped.ensures),
+      stepped-ready now c.in_ok-stepped.stepped (children-made_simple c.args.form) c.in_ok-stepped.ensures,
     )
 
 pub simplify_node-returns : goal.simplify_node-returns
 simplify_node-returns t c =
-    IfOk-weaker c.finish.result (λ r. r ≡ finished c.in_ok-stepped.stepped) (λ r. r ≡ simplify c.args.form.now)
-    (λ r e. finished-simple (on_children simplify c.args.form.now) c.in_ok-stepped.stepped r (children-made_simple c.args.form.now) c.in_ok-stepped.ensures e
-    ∙ simplify-children c.args.form.now)
+    IfOk-weaker c.finish.result (λ r. r ≡ finished c.in_ok-stepped.stepped) (λ r. r ≡ simplify c.args.form)
+    (λ r e. finished-simple (on_children simplify c.args.form) c.in_ok-stepped.stepped r (children-made_simple c.args.form) c.in_ok-stepped.ensures e
+    ∙ simplify-children c.args.form)
     c.finish.ensures
 
 -- ---- one quantifier
@@ -229,50 +211,50 @@ put_back-returns t c =
 
 pub simplify_one-put_front-requires : goal.simplify_one-put_front-requires
 simplify_one-put_front-requires t c =
-    let made : c.in_ok-body.body ≡ simplify c.args.form.now = c.in_ok-body.ensures.exact ∙ ap simplify c.get.ensures in (
-      omega (arith, weight-quantify (c.args.quantifier ∷ []) c.in_ok-body.body c.args.form.now (omega (arith, ap weight made, (simplify-keeps c.args.form.now).weight))),
-      subst IsSimple (sym made) (simplify-simple c.args.form.now),
+    let made : c.in_ok-body.body ≡ simplify c.args.form = c.in_ok-body.ensures.exact in (
+      omega (arith, weight-quantify (c.args.quantifier ∷ []) c.in_ok-body.body c.args.form (omega (arith, ap weight made, (simplify-keeps c.args.form).weight))),
+      subst IsSimple (sym made) (simplify-simple c.args.form),
     )
 
 pub simplify_one-returns : goal.simplify_one-returns
 simplify_one-returns t c =
-    let made : c.in_ok-body.body ≡ simplify c.args.form.now = c.in_ok-body.ensures.exact ∙ ap simplify c.get.ensures in
-    IfOk-weaker c.put_front.result (λ r. r ≡ simplify (quantified c.args.quantifier c.in_ok-body.body)) (λ r. r ≡ simplify (quantified c.args.quantifier c.args.form.now))
-    (λ r e. e ∙ ap (λ g. simplify (quantified c.args.quantifier g)) made ∙ simplify-quantified c.args.quantifier c.args.form.now)
+    let made : c.in_ok-body.body ≡ simplify c.args.form = c.in_ok-body.ensures.exact in
+    IfOk-weaker c.put_front.result (λ r. r ≡ simplify (quantified c.args.quantifier c.in_ok-body.body)) (λ r. r ≡ simplify (quantified c.args.quantifier c.args.form))
+    (λ r e. e ∙ ap (λ g. simplify (quantified c.args.quantifier g)) made ∙ simplify-quantified c.args.quantifier c.args.form)
     c.put_front.ensures
 
 pub simplify_chain-put_back_few-requires : goal.simplify_chain-put_back_few-requires
 simplify_chain-put_back_few-requires t c =
-    let whole : quantify c.chain_of.new.chain.items c.in_ok-inner.inner.now ≡ quantified c.args.outermost c.args.form.now =
-    chain-whole c.new-chain.result.items c.push.new.self.items c.chain_of.new.chain.items c.args.outermost c.args.form.now c.get-2.result.now c.in_ok-inner.inner.now
-    c.new-chain.ensures.items c.in_ok-push.ensures.items c.get-2.ensures c.in_ok-inner.ensures.whole in (
-      omega (arith, chain-weighs c.chain_of.new.chain.items c.in_ok-inner.inner.now c.in_ok-body.body (quantified c.args.outermost c.args.form.now) c.in_ok-body.ensures.exact whole),
-      subst IsSimple (sym c.in_ok-body.ensures.exact) (simplify-simple c.in_ok-inner.inner.now),
+    let whole : quantify c.chain_of.new.chain.items c.in_ok-inner.inner ≡ quantified c.args.outermost c.args.form =
+    chain-whole c.new-chain.result.items c.push.new.self.items c.chain_of.new.chain.items c.args.outermost c.args.form c.in_ok-inner.inner
+    c.new-chain.ensures.items c.in_ok-push.ensures.items c.in_ok-inner.ensures.whole in (
+      omega (arith, chain-weighs c.chain_of.new.chain.items c.in_ok-inner.inner c.in_ok-body.body (quantified c.args.outermost c.args.form) c.in_ok-body.ensures.exact whole),
+      subst IsSimple (sym c.in_ok-body.ensures.exact) (simplify-simple c.in_ok-inner.inner),
     )
 
 pub simplify_chain-put_back-requires : goal.simplify_chain-put_back-requires
 simplify_chain-put_back-requires t c =
-    let whole : quantify c.chain_of.new.chain.items c.in_ok-inner.inner.now ≡ quantified c.args.outermost c.args.form.now =
-    chain-whole c.new-chain.result.items c.push.new.self.items c.chain_of.new.chain.items c.args.outermost c.args.form.now c.get-2.result.now c.in_ok-inner.inner.now
-    c.new-chain.ensures.items c.in_ok-push.ensures.items c.get-2.ensures c.in_ok-inner.ensures.whole in (
-      omega (arith, chain-weighs c.chain_of.new.chain.items c.in_ok-inner.inner.now c.in_ok-body.body (quantified c.args.outermost c.args.form.now) c.in_ok-body.ensures.exact whole),
-      subst IsSimple (sym c.in_ok-body.ensures.exact) (simplify-simple c.in_ok-inner.inner.now),
+    let whole : quantify c.chain_of.new.chain.items c.in_ok-inner.inner ≡ quantified c.args.outermost c.args.form =
+    chain-whole c.new-chain.result.items c.push.new.self.items c.chain_of.new.chain.items c.args.outermost c.args.form c.in_ok-inner.inner
+    c.new-chain.ensures.items c.in_ok-push.ensures.items c.in_ok-inner.ensures.whole in (
+      omega (arith, chain-weighs c.chain_of.new.chain.items c.in_ok-inner.inner c.in_ok-body.body (quantified c.args.outermost c.args.form) c.in_ok-body.ensures.exact whole),
+      subst IsSimple (sym c.in_ok-body.ensures.exact) (simplify-simple c.in_ok-inner.inner),
     )
 
 pub simplify_chain-returns-then-len-lt-FEW : goal.simplify_chain-returns-then-len-lt-FEW
 simplify_chain-returns-then-len-lt-FEW t c =
-    let whole : quantify c.chain_of.new.chain.items c.in_ok-inner.inner.now ≡ quantified c.args.outermost c.args.form.now =
-    chain-whole c.new-chain.result.items c.push.new.self.items c.chain_of.new.chain.items c.args.outermost c.args.form.now c.get-2.result.now c.in_ok-inner.inner.now
-    c.new-chain.ensures.items c.in_ok-push.ensures.items c.get-2.ensures c.in_ok-inner.ensures.whole in
-    IfOk-weaker c.put_back_few.result (λ r. r ≡ simplify (quantify c.chain_of.new.chain.items c.in_ok-body.body)) (λ r. r ≡ simplify (quantified c.args.outermost c.args.form.now))
-    (λ r e. chain-simplified c.chain_of.new.chain.items c.in_ok-inner.inner.now c.in_ok-body.body (quantified c.args.outermost c.args.form.now) r c.in_ok-body.ensures.exact whole e)
+    let whole : quantify c.chain_of.new.chain.items c.in_ok-inner.inner ≡ quantified c.args.outermost c.args.form =
+    chain-whole c.new-chain.result.items c.push.new.self.items c.chain_of.new.chain.items c.args.outermost c.args.form c.in_ok-inner.inner
+    c.new-chain.ensures.items c.in_ok-push.ensures.items c.in_ok-inner.ensures.whole in
+    IfOk-weaker c.put_back_few.result (λ r. r ≡ simplify (quantify c.chain_of.new.chain.items c.in_ok-body.body)) (λ r. r ≡ simplify (quantified c.args.outermost c.args.form))
+    (λ r e. chain-simplified c.chain_of.new.chain.items c.in_ok-inner.inner c.in_ok-body.body (quantified c.args.outermost c.args.form) r c.in_ok-body.ensures.exact whole e)
     c.put_back_few.ensures
 
 pub simplify_chain-returns-else-len-lt-FEW : goal.simplify_chain-returns-else-len-lt-FEW
 simplify_chain-returns-else-len-lt-FEW t c =
-    let whole : quantify c.chain_of.new.chain.items c.in_ok-inner.inner.now ≡ quantified c.args.outermost c.args.form.now =
-    chain-whole c.new-chain.result.items c.push.new.self.items c.chain_of.new.chain.items c.args.outermost c.args.form.now c.get-2.result.now c.in_ok-inner.inner.now
-    c.new-chain.ensures.items c.in_ok-push.ensures.items c.get-2.ensures c.in_ok-inner.ensures.whole in
-    IfOk-weaker c.put_back.result (λ r. r ≡ simplify (quantify c.chain_of.new.chain.items c.in_ok-body.body)) (λ r. r ≡ simplify (quantified c.args.outermost c.args.form.now))
-    (λ r e. chain-simplified c.chain_of.new.chain.items c.in_ok-inner.inner.now c.in_ok-body.body (quantified c.args.outermost c.args.form.now) r c.in_ok-body.ensures.exact whole e)
+    let whole : quantify c.chain_of.new.chain.items c.in_ok-inner.inner ≡ quantified c.args.outermost c.args.form =
+    chain-whole c.new-chain.result.items c.push.new.self.items c.chain_of.new.chain.items c.args.outermost c.args.form c.in_ok-inner.inner
+    c.new-chain.ensures.items c.in_ok-push.ensures.items c.in_ok-inner.ensures.whole in
+    IfOk-weaker c.put_back.result (λ r. r ≡ simplify (quantify c.chain_of.new.chain.items c.in_ok-body.body)) (λ r. r ≡ simplify (quantified c.args.outermost c.args.form))
+    (λ r e. chain-simplified c.chain_of.new.chain.items c.in_ok-inner.inner c.in_ok-body.body (quantified c.args.outermost c.args.form) r c.in_ok-body.ensures.exact whole e)
     c.put_back.ensures

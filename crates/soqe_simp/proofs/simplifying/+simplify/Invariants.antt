@@ -10,13 +10,13 @@ use Rattle.soqe_simp.proofs.Knowing.{EachHasPlace}
 use Rattle.soqe_simp.proofs.simplifying.+simplify.Given as goal
 
 abbrev pub decreases-simplify : goal.decreases-simplify
-decreases-simplify l = 8 * weight l.form.now + 5
+decreases-simplify l = 8 * weight l.form + 5
 
 abbrev pub decreases-simplify_node : goal.decreases-simplify_node
-decreases-simplify_node l = 8 * weight l.form.now + 4
+decreases-simplify_node l = 8 * weight l.form + 4
 
 abbrev pub decreases-step_at_root : goal.decreases-step_at_root
-decreases-step_at_root l = 8 * weight l.form.now + 3
+decreases-step_at_root l = 8 * weight l.form + 3
 
 abbrev pub decreases-settle : goal.decreases-settle
 decreases-settle l = 8 * weight l.form + 1
@@ -31,10 +31,10 @@ abbrev pub decreases-settle_made : goal.decreases-settle_made
 decreases-settle_made l = 8 * weight l.made.form + 7
 
 abbrev pub decreases-simplify_chain : goal.decreases-simplify_chain
-decreases-simplify_chain l = 8 * weight (quantified l.outermost l.form.now) + 4
+decreases-simplify_chain l = 8 * weight (quantified l.outermost l.form) + 4
 
 abbrev pub decreases-simplify_one : goal.decreases-simplify_one
-decreases-simplify_one l = 8 * weight (quantified l.quantifier l.form.now) + 3
+decreases-simplify_one l = 8 * weight (quantified l.quantifier l.form) + 3
 
 abbrev pub decreases-put_back_few : goal.decreases-put_back_few
 decreases-put_back_few l = 8 * weight (quantify l.chain.items l.form) + 3

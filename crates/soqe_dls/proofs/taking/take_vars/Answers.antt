@@ -1,7 +1,7 @@
 use Rattle.std.proofs.Common.{List, ◌+◌, ◌-◌, sym, subst, arith}
 use Rattle.soqe_term.specs.declared.term.Var.{Var}
 use Rattle.soqe_dls.proofs.FoldedForms.{Taken, front-is-existential, taken-more}
-use Rattle.soqe_dls.proofs.folding.take_vars.Goals as goal
+use Rattle.soqe_dls.proofs.taking.take_vars.Goals as goal
 
 pub below-body-requires : goal.below-body-requires
 below-body-requires c = front-is-existential (c.args.count - c.loop.counter) c.loop.rest c.loop.invariant.left (omega arith)

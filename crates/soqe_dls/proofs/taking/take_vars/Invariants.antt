@@ -1,5 +1,5 @@
 use Rattle.soqe_dls.proofs.FoldedForms.{Taken}
-use Rattle.soqe_dls.proofs.folding.take_vars.Given as goal
+use Rattle.soqe_dls.proofs.taking.take_vars.Given as goal
 
 abbrev pub invariant-loop : goal.invariant-loop
 invariant-loop l = Taken l.fn.form l.rest l.vars l.count l.counter

@@ -1,54 +1,15 @@
-//! Formulas of lists: those of a case as one formula, a formula taken apart again, and formulas joined one by one.
+//! The variables in front of a formula and the formulas that it joins, taken out of it again. Every part is moved.
 #![tactic(auto, unfolding(soqe_form::specs::Boxes::boxes))]
 
 ghost use Rattle.std.specs.Prelude.{◌≡◌, ◌+◌, ◌∷◌, [], true, length, IfOk};
 ghost use Rattle.soqe_form.specs.declared.form.Form.{And, Ex};
-ghost use Rattle.soqe_norm.specs.Folds.{all_of, and_after, exists_in};
-ghost use Rattle.soqe_dls.specs.Parts.{HasConjuncts, HasInFront, is_conjunction, is_existential, joined as joined_to};
+ghost use Rattle.soqe_norm.specs.Folds.{all_of, exists_in};
+ghost use Rattle.soqe_dls.specs.Parts.{HasConjuncts, HasInFront, is_conjunction, is_existential};
 
-use soqe_form::make::{conjunction, disjunction, exists};
-use soqe_form::{Form, Forms, copy_boxed};
+use soqe_form::{Form, Forms};
 use soqe_term::{Mem, Var, Vars};
 use sqlite_items::Boxed;
 use std::alloc::Global;
-
-/// Copies of all formulas of a list, joined by `&`.
-pub(crate) fn all(alloc: Global, forms: &[Boxed<Form>]) -> Mem<Boxed<Form>>
-    ensures { IfOk result (λ r. r ≡ all_of forms.now) }
-{
-    match forms {
-        [] => Boxed::new(alloc, Form::True),
-        [first, rest @ ..] => {
-            let first = copy_boxed(alloc, first)?;
-            all_after(alloc, first, rest)
-        }
-    }
-}
-
-/// Copies of further formulas by `&` after the first.
-fn all_after(alloc: Global, first: Boxed<Form>, rest: &[Boxed<Form>]) -> Mem<Boxed<Form>>
-    ensures { IfOk result (λ r. r ≡ and_after first rest.now) }
-{
-    let mut made = first;
-    for form in rest {
-        let form = copy_boxed(alloc, form)?;
-        made = conjunction(alloc, made, form)?;
-    }
-    Ok(made)
-}
-
-/// Existential variables in front of a formula. It recurses as deep as there are variables.
-pub(crate) fn exist(alloc: Global, vars: &[Var], form: Boxed<Form>) -> Mem<Boxed<Form>>
-    ensures { IfOk result (λ r. r ≡ exists_in vars.now form) }
-{
-    match vars {
-        [] => Ok(form),
-        [x, rest @ ..] => {
-            let form = exist(alloc, rest, form)?;
-            exists(alloc, *x, form)
-        }
-    }
-}
 
 /// So many variables from the front of a formula, and what stands below them.
 pub(crate) fn take_vars(alloc: Global, form: Boxed<Form>, count: usize) -> Mem<(Vars, Boxed<Form>)>
@@ -120,19 +81,5 @@ fn sides(form: Boxed<Form>) -> (Boxed<Form>, Boxed<Form>)
     match form.into_inner() {
         Form::And(f, g) => (f, g),
         _ => unreachable!(),
-    }
-}
-
-/// One more formula joined by `|` to those so far.
-pub(crate) fn join(
-    alloc: Global,
-    so_far: Option<Boxed<Form>>,
-    form: Boxed<Form>,
-) -> Mem<Boxed<Form>>
-    ensures { IfOk result (λ r. r ≡ joined_to so_far form) }
-{
-    match so_far {
-        None => Ok(form),
-        Some(before) => disjunction(alloc, before, form),
     }
 }

@@ -1,11 +1,10 @@
 -- Formulas joined one after another give the folds.
-use Rattle.std.proofs.Common.{◌≡◌, true, false, List, [], ◌∷◌, ◌++◌, map, reverse, Option, Some, None, refl, ◌∙◌, ap}
+use Rattle.std.proofs.Common.{◌≡◌, true, false, List, [], ◌∷◌, ◌++◌, Option, Some, None, refl, ◌∙◌, ap}
 use Rattle.std.specs.Option.{unwrap_or}
-use Rattle.std.proofs.lemmas.List.{reverse-append}
 use Rattle.soqe_form.specs.declared.form.Form.{Form, And, Or}
 use Rattle.soqe_form.specs.Constants.{constant}
 use Rattle.soqe_norm.specs.Folds.{or_after, any_of, and_after, all_of}
-use Rattle.soqe_ack.specs.Joins.{with_or, or_onto, with_and, and_onto}
+use Rattle.soqe_norm.specs.Joins.{with_or, or_onto, and_onto}
 
 -- one more at the end
 pub or_onto-push : (made : Option Form) (fs : List Form) (f : Form) → or_onto made (fs ++ f ∷ []) ≡ Some (with_or (or_onto made fs) f)
@@ -27,11 +26,6 @@ and-after f (g ∷ fs) = and-after (And f g) fs
 all-joined : (fs : List Form) → unwrap_or (and_onto None fs) (constant true) ≡ all_of fs
 all-joined [] = refl
 all-joined (f ∷ fs) = ap (λ o. unwrap_or o (constant true)) (and-after f fs)
-
--- the last of a reversed list comes next
-pub next-joined : {A : Type 0} (k : A → Form) (made : Option Form) (items : List A) (a : A)
-    → and_onto made (map k (reverse (items ++ a ∷ []))) ≡ and_onto (Some (with_and made (k a))) (map k (reverse items))
-next-joined k made items a = ap (λ l. and_onto made (map k l)) (reverse-append items (a ∷ []))
 
 pub joined_any : (fs : List Form) (made : Option Form) → made ≡ or_onto None fs → unwrap_or made (constant false) ≡ any_of fs
 joined_any fs made e = ap (λ o. unwrap_or o (constant false)) e ∙ any-joined fs
