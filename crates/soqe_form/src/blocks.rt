@@ -3,32 +3,71 @@
 
 ghost use Rattle.std.specs.Prelude.{◌≡◌, IfOk, [], reverse, Some};
 ghost use Rattle.soqe_form.specs.Places.{first_block as first_block_of, within, leftmost, innermost};
-ghost use Rattle.soqe_form.specs.Found.{upward, further};
+ghost use Rattle.soqe_form.specs.Found.{upward, further, seen, seen_in};
 
-use crate::form::{Block, Form, PVar, copy_boxed};
+use crate::form::{Block, Form, PVar};
 use soqe_term::{Mem, Nums};
 use sqlite_items::Boxed;
 use std::alloc::Global;
 
+/// A quantifier of a predicate as it stands in a formula, which is lent: a `Block` whose predicate and body are not copied.
+#[derive(Drop)]
+pub struct BlockRef<'a> {
+    pub place: Nums,
+    pub exists: bool,
+    pub pred: &'a PVar,
+    pub body: &'a Form,
+}
+
+impl<'a> BlockRef<'a> {
+    /// The block by itself. It copies the predicate and the body.
+    fn copied(self, alloc: Global) -> Mem<Block>
+        ensures { IfOk result (λ b. b ≡ seen self.entry) }
+    {
+        let pred = self.pred.copy(alloc)?;
+        let body = self.body.copy(alloc)?;
+        let body = Boxed::new(alloc, body)?;
+        Ok(Block {
+            place: self.place,
+            exists: self.exists,
+            pred,
+            body,
+        })
+    }
+}
+
 /// The leftmost quantifier of a predicate whose body has none, with its place, or none where the formula has no
-/// quantifier of a predicate.
-#[tactic(auto, using(crate::proofs::Found::upward_twice), unfolding(crate::specs::Boxes::boxes))]
+/// quantifier of a predicate. It copies the body.
 pub fn first_block(alloc: Global, form: &Form) -> Mem<Option<Block>>
     ensures { IfOk result (λ r. r ≡ first_block_of form.now) }
+{
+    match find_block(alloc, form)? {
+        None => Ok(None),
+        Some(block) => {
+            let block = block.copied(alloc)?;
+            Ok(Some(block))
+        }
+    }
+}
+
+/// The same block where it stands in the formula. It takes memory for the place alone.
+#[tactic(auto, using(crate::proofs::Found::upward_twice), unfolding(crate::specs::Boxes::boxes))]
+pub fn find_block(alloc: Global, form: &Form) -> Mem<Option<BlockRef<'_>>>
+    ensures { IfOk result (λ r. seen_in r ≡ first_block_of form.now) }
 {
     let block = find(alloc, form)?;
     turned(alloc, block)
 }
 
 /// The block with its place read from the end.
-fn turned(alloc: Global, block: Option<Block>) -> Mem<Option<Block>>
-    ensures { IfOk result (λ r. r ≡ upward block) }
+fn turned<'a>(alloc: Global, block: Option<BlockRef<'a>>) -> Mem<Option<BlockRef<'a>>>
+    ensures { IfOk result (λ r. seen_in r ≡ upward (seen_in block.entry)) }
 {
     match block {
         None => Ok(None),
         Some(block) => {
             let place = reversed(alloc, &block.place)?;
-            Ok(Some(Block {
+            Ok(Some(BlockRef {
                 place,
                 exists: block.exists,
                 pred: block.pred,
@@ -40,8 +79,8 @@ fn turned(alloc: Global, block: Option<Block>) -> Mem<Option<Block>>
 
 /// The first block, its place from the block up to the root.
 #[cycle(find)]
-fn find(alloc: Global, form: &Form) -> Mem<Option<Block>>
-    ensures { IfOk result (λ r. r ≡ upward (first_block_of form.now)) }
+fn find(alloc: Global, form: &Form) -> Mem<Option<BlockRef<'_>>>
+    ensures { IfOk result (λ r. seen_in r ≡ upward (first_block_of form.now)) }
 {
     match form {
         Form::True => Ok(None),
@@ -80,8 +119,8 @@ fn find(alloc: Global, form: &Form) -> Mem<Option<Block>>
 
 /// The first block of an only or first child.
 #[cycle(find)]
-fn find_below(alloc: Global, form: &Boxed<Form>) -> Mem<Option<Block>>
-    ensures { IfOk result (λ r. r ≡ upward (within 0 (first_block_of form.now))) }
+fn find_below(alloc: Global, form: &Boxed<Form>) -> Mem<Option<BlockRef<'_>>>
+    ensures { IfOk result (λ r. seen_in r ≡ upward (within 0 (first_block_of form.now))) }
 {
     let block = find(alloc, form.get())?;
     lengthened(block, 0)
@@ -89,8 +128,12 @@ fn find_below(alloc: Global, form: &Boxed<Form>) -> Mem<Option<Block>>
 
 /// The block found on the left, or else the first block of the second child.
 #[cycle(find)]
-fn find_right(alloc: Global, left: Option<Block>, right: &Boxed<Form>) -> Mem<Option<Block>>
-    ensures { IfOk result (λ r. r ≡ leftmost left (upward (within 1 (first_block_of right.now)))) }
+fn find_right<'a>(
+    alloc: Global,
+    left: Option<BlockRef<'a>>,
+    right: &'a Boxed<Form>,
+) -> Mem<Option<BlockRef<'a>>>
+    ensures { IfOk result (λ r. seen_in r ≡ leftmost (seen_in left.entry) (upward (within 1 (first_block_of right.now)))) }
 {
     match left {
         Some(block) => Ok(Some(block)),
@@ -102,15 +145,15 @@ fn find_right(alloc: Global, left: Option<Block>, right: &Boxed<Form>) -> Mem<Op
 }
 
 /// The block one child further down; the place is read from the end.
-fn lengthened(block: Option<Block>, child: u64) -> Mem<Option<Block>>
-    ensures { IfOk result (λ r. r ≡ further child block) }
+fn lengthened<'a>(block: Option<BlockRef<'a>>, child: u64) -> Mem<Option<BlockRef<'a>>>
+    ensures { IfOk result (λ r. seen_in r ≡ further child (seen_in block.entry)) }
 {
     match block {
         None => Ok(None),
         Some(block) => {
             let mut place = block.place;
             place.push(child)?;
-            Ok(Some(Block {
+            Ok(Some(BlockRef {
                 place,
                 exists: block.exists,
                 pred: block.pred,
@@ -121,27 +164,23 @@ fn lengthened(block: Option<Block>, child: u64) -> Mem<Option<Block>>
 }
 
 /// The block found in the body, or else the quantifier itself.
-fn inner_or(
+fn inner_or<'a>(
     alloc: Global,
-    inner: Option<Block>,
+    inner: Option<BlockRef<'a>>,
     exists: bool,
-    pred: &PVar,
-    body: &Boxed<Form>,
-) -> Mem<Option<Block>>
-    ensures { IfOk result (λ r. r ≡ leftmost inner (Some (record { place = []; exists = exists; pred = pred.now; body = body.now }))) }
+    pred: &'a PVar,
+    body: &'a Boxed<Form>,
+) -> Mem<Option<BlockRef<'a>>>
+    ensures { IfOk result (λ r. seen_in r ≡ leftmost (seen_in inner.entry) (Some (record { place = []; exists = exists; pred = pred.now; body = body.now }))) }
 {
     match inner {
         Some(block) => Ok(Some(block)),
-        None => {
-            let pred = pred.copy(alloc)?;
-            let body = copy_boxed(alloc, body)?;
-            Ok(Some(Block {
-                place: Nums::new(alloc),
-                exists,
-                pred,
-                body,
-            }))
-        }
+        None => Ok(Some(BlockRef {
+            place: Nums::new(alloc),
+            exists,
+            pred,
+            body: body.get(),
+        })),
     }
 }
 

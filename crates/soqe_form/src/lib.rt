@@ -37,7 +37,7 @@ mod tidying;
 mod unkept;
 mod uses;
 
-pub use blocks::first_block;
+pub use blocks::{BlockRef, find_block, first_block};
 pub use counts::Counts;
 pub use form::{Block, Form, PVar, Pred, copy_boxed};
 pub use free_preds::{has_free_pred, is_hidden, is_same_pred, mark_preds};
