@@ -90,6 +90,15 @@ impl Lines {
         self.items.push(line)?;
         Ok(())
     }
+
+    /// Adds lines behind these. They are moved.
+    pub fn append(&mut self, more: Lines) -> Mem<()>
+        ensures { OnOk result (self.new ≡ self.old ++ more) }
+    {
+        let mut items = more.items;
+        self.items.append(&mut items)?;
+        Ok(())
+    }
 }
 
 /// A derivation: the problem, and the lines behind its own.

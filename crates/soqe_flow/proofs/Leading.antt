@@ -14,20 +14,17 @@ use Rattle.soqe_deriv.specs.declared.document.Stop.TheVariants as stop
 use Rattle.soqe_flow.specs.declared.derivation.Wanted.{Wanted}
 use Rattle.soqe_flow.specs.declared.derivation.Wanted.TheVariants as wanted
 use Rattle.soqe_flow.specs.declared.blocks.BlockEnd.TheVariants as block
-use Rattle.soqe_flow.specs.Ordered.{Ending, Result, Stops, Follows, result, sign, mixed, dls, not_reached, sign_lines, after_sign, normal, closed_by, after_block, cases_lines, lost_lines}
+use Rattle.soqe_flow.specs.Ordered.{Ending, Result, Stops, Follows, result, sign, mixed, dls, not_reached, stands_with, closed, sign_lines, normal, closed_by, cases_lines, lost_lines}
 use Rattle.soqe_flow.proofs.FewerBlocks.{fewer-sign, fewer-cases}
-use Rattle.soqe_flow.specs.Running.{Derives, HasRun, WritesBlock, IsMixed, mixed_lines}
-
-abbrev pub Leads : List ℕ → Wanted → Form → List Line → Form → Type 0
-Leads keep w g all f = (ls : List Line) (e : Ending) → Follows keep w f ls e → Derives keep w g (all ++ ls) e
+use Rattle.soqe_flow.specs.Running.{Derives, HasRun, Leads, WritesBlock, IsMixed, mixed_lines}
 
 pub leads-start : (keep : List ℕ) (w : Wanted) (g : Form) → Leads keep w g (line.Start g ∷ []) g
 leads-start keep w g ls e k = record { lines = ls; are = refl; follow = k }
 
 -- over the lines of a block
-pub leads-on : (keep : List ℕ) (w : Wanted) (g f next : Form) (old new : List Line) → Leads keep w g old f → WritesBlock keep w f old new (block.Stands next)
-    → Leads keep w g new next
-leads-on keep w g f next old new k h ms e r =
+pub leads-on : (keep : List ℕ) (w : Wanted) (g f : Form) (place : List ℕ) (part : Form) (old new : List Line) → Leads keep w g old f
+    → WritesBlock keep w f old new (block.Closed place part) → Leads keep w g new (stands_with keep f place part)
+leads-on keep w g f place part old new k h ms e r =
     subst (λ ls. Derives keep w g ls e) (sym (append_assoc old h.0 ms) ∙ ap (λ ls. ls ++ ms) (sym h.1)) (k (h.0 ++ ms) e (h.2 ms e r))
 
 -- to the stop of a block
@@ -42,13 +39,13 @@ leads-result keep w g f all h k = (f, k (line.Result f ∷ line.End ∷ []) (Res
 
 -- ---- the lines of one block
 
-pub writes-sign : (keep : List ℕ) (f next : Form) (old new : List Line) (b : Block) (v : Bool) → first_block f ≡ Some b → value_for b ≡ Some v
-    → new ≡ old ++ sign_lines keep b v → next ≡ after_sign keep f b v → WritesBlock keep wanted.Sign f old new (block.Stands next)
-writes-sign keep f next old new b v h q e n = (
+pub writes-sign : (keep : List ℕ) (f part : Form) (old new : List Line) (b : Block) (v : Bool) → first_block f ≡ Some b → value_for b ≡ Some v
+    → new ≡ old ++ sign_lines keep b v → part ≡ closed keep b v → WritesBlock keep wanted.Sign f old new (block.Closed b.place part)
+writes-sign keep f part old new b v h q e n = (
   sign_lines keep b v,
   e,
-  λ ms x r. sign h q (subst (λ g. Follows keep wanted.Sign g ms x) n r),
-  subst (λ g. count_blocks g < count_blocks f) (sym n) (fewer-sign keep f b v h),
+  λ ms x r. sign h q (subst (λ p. Follows keep wanted.Sign (stands_with keep f b.place p) ms x) n r),
+  subst (λ p. count_blocks (stands_with keep f b.place p) < count_blocks f) (sym n) (fewer-sign keep f b v h),
 )
 
 pub writes-mixed : (keep : List ℕ) (f : Form) (old new : List Line) (b : Block) (s : Stop) → first_block f ≡ Some b → IsMixed b s
@@ -56,18 +53,17 @@ pub writes-mixed : (keep : List ℕ) (f : Form) (old new : List Line) (b : Block
 writes-mixed keep f old new b (stop.Mixed i j) h m e = (mixed_lines b (stop.Mixed i j), e, mixed h m.0 m.1)
 writes-mixed keep f old new b (stop.NotReached n) h m e = absurd m
 
-pub writes-cases : (keep : List ℕ) (f form next : Form) (old mid new : List Line) (b : Block) (steps : List DlsStep) → first_block f ≡ Some b
+pub writes-cases : (keep : List ℕ) (f form part : Form) (old mid new : List Line) (b : Block) (steps : List DlsStep) → first_block f ≡ Some b
     → IsAnswer keep b.pred (normal keep b) (end.Done steps form) → mid ≡ old ++ cases_lines b (normal keep b) steps
-    → new ≡ mid ++ line.Close (closed_by keep b form) ∷ [] → next ≡ after_block keep f b (closed_by keep b form)
-    → WritesBlock keep wanted.Dls f old new (block.Stands next)
-writes-cases keep f form next old mid new b steps h a e k n =
+    → new ≡ mid ++ line.Close part ∷ [] → part ≡ closed_by keep b form → WritesBlock keep wanted.Dls f old new (block.Closed b.place part)
+writes-cases keep f form part old mid new b steps h a e k n =
     let ls : List Line = cases_lines b (normal keep b) steps in
     let close : List Line = line.Close (closed_by keep b form) ∷ [] in (
       ls ++ close,
-      k ∙ ap (λ ms. ms ++ close) e ∙ append_assoc old ls close,
+      k ∙ ap (λ p. mid ++ line.Close p ∷ []) n ∙ ap (λ ms. ms ++ close) e ∙ append_assoc old ls close,
       λ ms x r. subst (λ ns. Follows keep wanted.Dls f ns x) (sym (append_assoc ls close ms))
-          (dls h a (subst (λ g. Follows keep wanted.Dls g ms x) n r)),
-      subst (λ g. count_blocks g < count_blocks f) (sym n) (fewer-cases keep f form b steps h a),
+          (dls h a (subst (λ p. Follows keep wanted.Dls (stands_with keep f b.place p) ms x) n r)),
+      subst (λ p. count_blocks (stands_with keep f b.place p) < count_blocks f) (sym n) (fewer-cases keep f form b steps h a),
     )
 
 pub writes-lost : (keep : List ℕ) (f : Form) (old mid new : List Line) (b : Block) (steps : List DlsStep) (n : ℕ) → first_block f ≡ Some b

@@ -33,9 +33,13 @@ pub data Ending : Type 0 where
 abbrev pub replaced : List ℕ → Block → Bool → Form
 replaced keep b v = tidy keep (valued b.pred.num v b.body)
 
+-- what stands with a part at a place
+abbrev pub stands_with : List ℕ → Form → List ℕ → Form → Form
+stands_with keep f place part = simplified keep (put_at place part f)
+
 -- what stands where a formula takes the place of a block
 abbrev pub after_block : List ℕ → Form → Block → Form → Form
-after_block keep f b closed = simplified keep (put_at b.place closed f)
+after_block keep f b closed = stands_with keep f b.place closed
 
 -- the formula that takes the place of a block whose predicate is replaced by a truth value
 abbrev pub closed : List ℕ → Block → Bool → Form

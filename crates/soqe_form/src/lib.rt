@@ -48,7 +48,7 @@ pub use names::{is_free, mark_form, mark_term};
 pub use pred_renaming::rename_pred;
 pub use put::put_in;
 pub use renaming::{rename, rename_boxed};
-pub use replace::replace_at;
+pub use replace::{put_beside, replace_at};
 pub use sameness::same;
 pub use sorting::well_sorted;
 pub use substitution::{subst, subst_all};

@@ -1,7 +1,7 @@
 //! A part of a formula replaced by another formula.
 #![tactic(auto, unfolding(crate::specs::Boxes::boxes))]
 
-ghost use Rattle.std.specs.Prelude.{◌≡◌, ◌∷◌, List, ℕ, IfOk, MatchOption, None, is_some, cond};
+ghost use Rattle.std.specs.Prelude.{◌≡◌, ◌∷◌, List, ℕ, IfOk, MatchOption, None, is_some};
 ghost use Rattle.soqe_form.specs.Places.{part_at, put_at, replaced};
 
 use crate::form::{Form, copy_boxed};
@@ -16,8 +16,9 @@ pub fn replace_at(alloc: Global, form: &Form, place: &Nums, by: &Form) -> Mem<Op
     if !has_part(form, place.as_slice()) {
         return Ok(None);
     }
-    let form = put(alloc, form, place.as_slice(), by)?;
-    let form = Boxed::new(alloc, form)?;
+    let by = by.copy(alloc)?;
+    let by = Boxed::new(alloc, by)?;
+    let form = put_beside(alloc, form, place.as_slice(), by)?;
     Ok(Some(form))
 }
 
@@ -56,20 +57,31 @@ fn child_of(form: &Form, child: u64) -> Option<&Form>
     }
 }
 
-/// The formula with `by` at the place, which is in the formula.
-fn put(alloc: Global, form: &Form, place: &[u64], by: &Form) -> Mem<Form>
-    ensures { IfOk result (λ r. r ≡ put_at place.now by.now form.now) }
+/// The formula with `by` at the place, which has to be in the formula: else `by` stands elsewhere or nowhere. What stands beside
+/// the place is copied, and `by` is moved.
+#[cycle(put_beside)]
+pub fn put_beside(alloc: Global, form: &Form, place: &[u64], by: Boxed<Form>) -> Mem<Boxed<Form>>
+    ensures { IfOk result (λ r. r ≡ put_at place.now by form.now) }
 {
     match place {
-        [] => by.copy(alloc),
-        [child, rest @ ..] => put_below(alloc, form, *child, rest, by),
+        [] => Ok(by),
+        [child, rest @ ..] => {
+            let form = put_below(alloc, form, *child, rest, by)?;
+            Boxed::new(alloc, form)
+        }
     }
 }
 
 /// The formula with `by` at a place below its root.
-#[cycle(put)]
-fn put_below(alloc: Global, form: &Form, child: u64, rest: &[u64], by: &Form) -> Mem<Form>
-    ensures { IfOk result (λ r. r ≡ put_at (child ∷ rest.now) by.now form.now) }
+#[cycle(put_beside)]
+fn put_below(
+    alloc: Global,
+    form: &Form,
+    child: u64,
+    rest: &[u64],
+    by: Boxed<Form>,
+) -> Mem<Form>
+    ensures { IfOk result (λ r. r ≡ put_at (child ∷ rest.now) by form.now) }
 {
     let first = child == 0;
     match form {
@@ -85,67 +97,70 @@ fn put_below(alloc: Global, form: &Form, child: u64, rest: &[u64], by: &Form) ->
             Ok(Form::Atom(*p, ts))
         }
         Form::Not(f) => {
-            let f = put_or_copy(alloc, true, f, rest, by)?;
+            let f = put_beside(alloc, f.get(), rest, by)?;
             Ok(Form::Not(f))
         }
         Form::And(f, g) => {
-            let f = put_or_copy(alloc, first, f, rest, by)?;
-            let g = put_or_copy(alloc, !first, g, rest, by)?;
-            Ok(Form::And(f, g))
+            if first {
+                let f = put_beside(alloc, f.get(), rest, by)?;
+                let g = copy_boxed(alloc, g)?;
+                Ok(Form::And(f, g))
+            } else {
+                let f = copy_boxed(alloc, f)?;
+                let g = put_beside(alloc, g.get(), rest, by)?;
+                Ok(Form::And(f, g))
+            }
         }
         Form::Or(f, g) => {
-            let f = put_or_copy(alloc, first, f, rest, by)?;
-            let g = put_or_copy(alloc, !first, g, rest, by)?;
-            Ok(Form::Or(f, g))
+            if first {
+                let f = put_beside(alloc, f.get(), rest, by)?;
+                let g = copy_boxed(alloc, g)?;
+                Ok(Form::Or(f, g))
+            } else {
+                let f = copy_boxed(alloc, f)?;
+                let g = put_beside(alloc, g.get(), rest, by)?;
+                Ok(Form::Or(f, g))
+            }
         }
         Form::Imp(f, g) => {
-            let f = put_or_copy(alloc, first, f, rest, by)?;
-            let g = put_or_copy(alloc, !first, g, rest, by)?;
-            Ok(Form::Imp(f, g))
+            if first {
+                let f = put_beside(alloc, f.get(), rest, by)?;
+                let g = copy_boxed(alloc, g)?;
+                Ok(Form::Imp(f, g))
+            } else {
+                let f = copy_boxed(alloc, f)?;
+                let g = put_beside(alloc, g.get(), rest, by)?;
+                Ok(Form::Imp(f, g))
+            }
         }
         Form::Iff(f, g) => {
-            let f = put_or_copy(alloc, first, f, rest, by)?;
-            let g = put_or_copy(alloc, !first, g, rest, by)?;
-            Ok(Form::Iff(f, g))
+            if first {
+                let f = put_beside(alloc, f.get(), rest, by)?;
+                let g = copy_boxed(alloc, g)?;
+                Ok(Form::Iff(f, g))
+            } else {
+                let f = copy_boxed(alloc, f)?;
+                let g = put_beside(alloc, g.get(), rest, by)?;
+                Ok(Form::Iff(f, g))
+            }
         }
         Form::All(x, f) => {
-            let f = put_or_copy(alloc, true, f, rest, by)?;
+            let f = put_beside(alloc, f.get(), rest, by)?;
             Ok(Form::All(*x, f))
         }
         Form::Ex(x, f) => {
-            let f = put_or_copy(alloc, true, f, rest, by)?;
+            let f = put_beside(alloc, f.get(), rest, by)?;
             Ok(Form::Ex(*x, f))
         }
         Form::All2(p, f) => {
-            let f = put_or_copy(alloc, true, f, rest, by)?;
+            let f = put_beside(alloc, f.get(), rest, by)?;
             let p = p.copy(alloc)?;
             Ok(Form::All2(p, f))
         }
         Form::Ex2(p, f) => {
-            let f = put_or_copy(alloc, true, f, rest, by)?;
+            let f = put_beside(alloc, f.get(), rest, by)?;
             let p = p.copy(alloc)?;
             Ok(Form::Ex2(p, f))
         }
     }
-}
-
-/// The formula with `by` at the place where the place leads here, and else a copy.
-#[cycle(put)]
-fn put_or_copy(
-    alloc: Global,
-    here: bool,
-    form: &Boxed<Form>,
-    place: &[u64],
-    by: &Form,
-) -> Mem<Boxed<Form>>
-    ensures { IfOk result (λ r. r ≡ cond here (put_at place.now by.now form.now) form.now) }
-{
-    if !here {
-        return copy_boxed(alloc, form);
-    }
-    let form = match place {
-        [] => by.copy(alloc)?,
-        [child, rest @ ..] => put_below(alloc, form.get(), *child, rest, by)?,
-    };
-    Boxed::new(alloc, form)
 }

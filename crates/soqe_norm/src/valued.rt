@@ -2,6 +2,7 @@
 #![tactic(auto, unfolding(soqe_form::specs::Boxes::boxes))]
 
 ghost use Rattle.std.specs.Prelude.{◌≡◌, eqb, IfOk};
+ghost use Rattle.soqe_form.specs.Found.{seen};
 ghost use Rattle.soqe_form.specs.Free.{is_bound};
 ghost use Rattle.soqe_norm.specs.Valued.{valued as with_value, value_by as value_from, value_for as value_of};
 
@@ -10,18 +11,18 @@ use soqe_form::make::{
     conjunction, constant, disjunction, equivalence, exists, exists_table, for_all, for_all_tables,
     implication, negation,
 };
-use soqe_form::{Block, Form, PVar, Pred, copy_boxed};
+use soqe_form::{BlockRef, Form, PVar, Pred, copy_boxed};
 use soqe_term::{Mem, copy_term};
 use sqlite_items::Boxed;
 use std::alloc::Global;
 
 /// The truth value that replaces the block's predicate: for an existential quantifier the one that makes the body as
 /// true as any table does, for a universal one the one that makes it as false. None where both signs occur.
-pub fn value_for(block: &Block) -> Option<bool>
-    ensures { result ≡ value_of block.now }
+pub fn value_for(block: &BlockRef) -> Option<bool>
+    ensures { result ≡ value_of (seen block.now) }
 {
     let pred = Pred::Bound(block.pred.num);
-    let s = signs(block.body.get(), &pred);
+    let s = signs(block.body, &pred);
     value_by(block.exists, s.pos, s.neg)
 }
 
