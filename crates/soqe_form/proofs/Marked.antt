@@ -1,89 +1,47 @@
 -- What a map of marks says of each number.
-use Rattle.std.proofs.Common.{◌≡◌, ℕ, zero, suc, ◌<◌, ◌≤◌, ◌+◌, Bool, true, false, cond, eqb, ◌||◌, List, [], ◌∷◌, ◌++◌, length, take, set, get_or, Option, Some, refl, sym, ◌∙◌, ap, subst, arith}
+use Rattle.std.proofs.Common.{◌≡◌, ℕ, suc, ◌<◌, ◌≤◌, ◌+◌, Bool, true, false, cond, eqb, not, ◌||◌, List, [], ◌∷◌, length, take, get_or, Option, Some, refl, sym, ◌∙◌, ap, subst, arith}
 use Rattle.std.specs.Map.{lookup, keys_of}
 use Rattle.std.specs.Option.{unwrap_or}
 use Rattle.std.specs.List.{list_any}
-use Rattle.std.proofs.lemmas.Bool.{eqb-true, eqb-false, eq-eqb}
+use Rattle.std.proofs.lemmas.Bool.{eqb-true, eqb-false}
 use Rattle.std.proofs.lemmas.List.Folds.{list_any_more}
-use Rattle.std.proofs.lemmas.List.{length-map, append_assoc}
+use Rattle.std.proofs.lemmas.List.{length-map}
 use Rattle.std.proofs.lemmas.Map.Steps.{le-length_from_below}
-use Rattle.soqe_term.proofs.Choices.{same_test, bool_cases}
+use Rattle.soqe_term.proofs.Choices.{bool_cases}
+use Rattle.soqe_term.proofs.Renumbered.{eqb_sym}
 use Rattle.soqe_term.specs.World.{changed}
-use Rattle.soqe_form.specs.Marks.{marked, HasNone, IsPlaceOf, IsLeastWithout, Adds}
+use Rattle.soqe_term.specs.SmallMap.{Sets}
+use Rattle.soqe_form.specs.Marks.{marked, as_marks, IsLeastWithout, Adds}
 
-eqb_sym : (m n : ℕ) → eqb m n ≡ eqb n m
-eqb_sym m n = same_test (eqb m n) (eqb n m) (λ e. eq-eqb n m (sym (eqb-true m n e))) (λ e. eq-eqb m n (sym (eqb-true n m e)))
+mark_of : (b c : Bool) (value : ℕ) (mark : Bool) (o : Option ℕ) → b ≡ c → not (eqb value 0) ≡ mark
+    → not (eqb (unwrap_or (cond b (Some value) o) 0) 0) ≡ cond c mark (not (eqb (unwrap_or o 0) 0))
+mark_of true true value mark o e h = h
+mark_of false false value mark o e h = refl
+mark_of true false value mark o e h = cc
+mark_of false true value mark o e h = cc
 
-mark_of : (b c mark : Bool) (o : Option Bool) → b ≡ c → unwrap_or (cond b (Some mark) o) false ≡ cond c mark (unwrap_or o false)
-mark_of true true mark o e = refl
-mark_of false false mark o e = refl
-mark_of true false mark o e = cc
-mark_of false true mark o e = cc
+-- ---- values that stand for marks
+
+as_step : (b : Bool) (value : ℕ) (o : Option ℕ) (m : Option Bool) → unwrap_or m false ≡ not (eqb (unwrap_or o 0) 0)
+    → unwrap_or (cond b (Some (not (eqb value 0))) m) false ≡ not (eqb (unwrap_or (cond b (Some value) o) 0) 0)
+as_step true value o m h = refl
+as_step false value o m h = h
+
+-- a number has a mark where its value is not 0
+pub marked-as : (n : ℕ) (es : List (ℕ × ℕ)) → marked (as_marks es) n ≡ not (eqb (unwrap_or (lookup (eqb n) es) 0) 0)
+unfolding marked
+marked-as n [] = refl
+marked-as n (e ∷ es) = as_step (eqb n e.0) e.1 (lookup (eqb n) es) (lookup (eqb n) (as_marks es)) (marked-as n es)
+
+pub length-as : (es : List (ℕ × ℕ)) → length (as_marks es) ≡ length es
+length-as es = length-map es (λ (e : ℕ × ℕ). (e.0, not (eqb e.1 0)))
 
 -- the marks after one was set
-pub marked-set : (old new : List (ℕ × Bool)) (n : ℕ) (mark : Bool) → ((q : ℕ) → lookup (eqb q) new ≡ cond (eqb n q) (Some mark) (lookup (eqb q) old)) → marked new ≡ changed (marked old) n mark
-unfolding marked
-marked-set old new n mark h = λ i q. (ap (λ o. unwrap_or o false) (h q) ∙ mark_of (eqb n q) (eqb q n) mark (lookup (eqb q) old) (eqb_sym n q)) i
-
--- ---- entries in front of others
-
-mark_front : (b mark : Bool) (o : Option Bool) → unwrap_or (cond b (Some mark) o) false ≡ cond b mark (unwrap_or o false)
-mark_front true mark o = refl
-mark_front false mark o = refl
-
-pub marked-front : (n : ℕ) (e : ℕ × Bool) (es : List (ℕ × Bool)) → marked (e ∷ es) n ≡ cond (eqb n e.0) e.1 (marked es n)
-unfolding marked
-marked-front n e es = mark_front (eqb n e.0) e.1 (lookup (eqb n) es)
-
-pub marked-behind : (n : ℕ) (few others : List (ℕ × Bool)) → HasNone n few → marked (few ++ others) n ≡ marked others n
-marked-behind n [] others h = refl
-marked-behind n (e ∷ es) others h =
-    marked-front n e (es ++ others) ∙ ap (λ b. cond b e.1 (marked (es ++ others) n)) (h 0 (omega arith)) ∙ marked-behind n es others (λ k l. h (suc k) (omega (arith, l)))
-
-place-behind : (n : ℕ) (e : ℕ × Bool) (es : List (ℕ × Bool)) (i : ℕ) → IsPlaceOf n (e ∷ es) (suc i) → IsPlaceOf n es i
-place-behind n e es i p = record { within = omega (arith, p.within); here = p.here; before = λ k l. p.before (suc k) (omega (arith, l)) }
-
-pub marked-at : (n : ℕ) (few others : List (ℕ × Bool)) (i : ℕ) → IsPlaceOf n few i → marked (few ++ others) n ≡ (get_or few i (0, false)).1
-marked-at n [] others i p = absurd (omega (arith, p.within))
-marked-at n (e ∷ es) others zero p = marked-front n e (es ++ others) ∙ ap (λ b. cond b e.1 (marked (es ++ others) n)) p.here
-marked-at n (e ∷ es) others (suc i) p =
-    marked-front n e (es ++ others) ∙ ap (λ b. cond b e.1 (marked (es ++ others) n)) (p.before 0 (omega arith)) ∙ marked-at n es others i (place-behind n e es i p)
-
-cond_swap : (a b v w x : Bool) → (a ≡ true → b ≡ true → ⊥) → cond a v (cond b w x) ≡ cond b w (cond a v x)
-cond_swap true true v w x h = absurd (h refl refl)
-cond_swap true false v w x h = refl
-cond_swap false b v w x h = refl
-
-cond_again : (b v w x : Bool) → cond b v x ≡ cond b v (cond b w x)
-cond_again true v w x = refl
-cond_again false v w x = refl
-
--- a change behind an entry of another number
-changed-after : (n : ℕ) (mark : Bool) (e : ℕ × Bool) (old new : List (ℕ × Bool)) → eqb n e.0 ≡ false → marked new ≡ changed (marked old) n mark
-    → marked (e ∷ new) ≡ changed (marked (e ∷ old)) n mark
-changed-after n mark e old new h k =
-    λ i q. (marked-front q e new ∙ ap (cond (eqb q e.0) e.1) (λ j. k j q)
-    ∙ cond_swap (eqb q e.0) (eqb q n) e.1 mark (marked old q) (λ a b. eqb-false n e.0 h (sym (eqb-true q n b) ∙ eqb-true q e.0 a))
-    ∙ ap (cond (eqb q n) mark) (sym (marked-front q e old))) i
-
-pub changed-behind : (n : ℕ) (mark : Bool) (few old new : List (ℕ × Bool)) → HasNone n few → marked new ≡ changed (marked old) n mark
-    → marked (few ++ new) ≡ changed (marked (few ++ old)) n mark
-changed-behind n mark [] old new h k = k
-changed-behind n mark (e ∷ es) old new h k =
-    changed-after n mark e (es ++ old) (es ++ new) (h 0 (omega arith)) (changed-behind n mark es old new (λ j l. h (suc j) (omega (arith, l))) k)
-
-pub changed-pushed : (n : ℕ) (mark : Bool) (few others : List (ℕ × Bool)) → HasNone n few → marked ((few ++ (n, mark) ∷ []) ++ others) ≡ changed (marked (few ++ others)) n mark
-changed-pushed n mark few others h =
-    ap marked (append_assoc few ((n, mark) ∷ []) others) ∙ changed-behind n mark few others ((n, mark) ∷ others) h (λ i q. marked-front q (n, mark) others i)
-
-pub changed-put : (n : ℕ) (mark : Bool) (few others : List (ℕ × Bool)) (i : ℕ) → IsPlaceOf n few i → marked (set few i (n, mark) ++ others) ≡ changed (marked (few ++ others)) n mark
-changed-put n mark [] others i p = absurd (omega (arith, p.within))
-changed-put n mark (e ∷ es) others zero p =
-    λ j q. (marked-front q (n, mark) (es ++ others) ∙ cond_again (eqb q n) mark e.1 (marked (es ++ others) q)
-    ∙ ap (λ m. cond (eqb q n) mark (cond (eqb q m) e.1 (marked (es ++ others) q))) (eqb-true n e.0 p.here)
-    ∙ ap (cond (eqb q n) mark) (sym (marked-front q e (es ++ others)))) j
-changed-put n mark (e ∷ es) others (suc i) p =
-    changed-after n mark e (es ++ others) (set es i (n, mark) ++ others) (p.before 0 (omega arith)) (changed-put n mark es others i (place-behind n e es i p))
+pub marked-set : (old new : List (ℕ × ℕ)) (n value : ℕ) (mark : Bool) → not (eqb value 0) ≡ mark → Sets n value old new
+    → marked (as_marks new) ≡ changed (marked (as_marks old)) n mark
+marked-set old new n value mark e h =
+    λ i q. (marked-as q new ∙ ap (λ o. not (eqb (unwrap_or o 0) 0)) (h q) ∙ mark_of (eqb n q) (eqb q n) value mark (lookup (eqb q) old) (eqb_sym n q) e
+    ∙ ap (cond (eqb q n) mark) (sym (marked-as q old))) i
 
 -- ---- the least number without a mark
 
@@ -114,9 +72,11 @@ least_of_all marks h = record {
 }
 
 -- the same where as many numbers as there are marks were tried
-pub least_of_tried : (marks : List (ℕ × Bool)) (count n : ℕ) → count ≡ length marks → count ≤ n → ((k : ℕ) → k < n → marked marks k ≡ true) → IsLeastWithout (marked marks) count
-least_of_tried marks count n len enough h =
-    subst (λ m. IsLeastWithout (marked marks) m) (sym len) (least_of_all marks (λ k l. h k (omega (arith, l, len, enough))))
+pub least_of_tried : (values : List (ℕ × ℕ)) (marks : List (ℕ × Bool)) (count n : ℕ) → as_marks values ≡ marks → count ≡ length values → count ≤ n
+    → ((k : ℕ) → k < n → marked marks k ≡ true) → IsLeastWithout (marked marks) count
+least_of_tried values marks count n view len enough h =
+    let same : count ≡ length marks = len ∙ sym (length-as values) ∙ ap length view in
+    subst (λ m. IsLeastWithout (marked marks) m) (sym same) (least_of_all marks (λ k l. h k (omega (arith, l, same, enough))))
 
 -- ---- marks that are added
 

@@ -1,5 +1,5 @@
 -- Marked numbers.
-use Rattle.std.specs.Prelude.{ℕ, ◌≡◌, ◌<◌, Bool, true, false, ◌||◌, List, length, slice_index_or, nat_eq}
+use Rattle.std.specs.Prelude.{ℕ, ◌≡◌, ◌<◌, Bool, true, false, not, eqb, ◌||◌, List, map, nat_eq}
 use Rattle.std.specs.Map.{lookup}
 use Rattle.std.specs.Option.{unwrap_or}
 
@@ -7,15 +7,9 @@ use Rattle.std.specs.Option.{unwrap_or}
 unfoldable pub marked : List (ℕ × Bool) → ℕ → Bool
 marked marks n = unwrap_or (lookup (nat_eq n) marks) false
 
--- no entry has the number
-abbrev pub HasNone : ℕ → List (ℕ × Bool) → Type 0
-HasNone n es = (k : ℕ) → k < length es → nat_eq n (slice_index_or es k (0, false)).0 ≡ false
-
--- the first entry with the number stands at the place
-pub record IsPlaceOf (n : ℕ) (es : List (ℕ × Bool)) (place : ℕ) : Type 0 where
-  pub within : place < length es
-  pub here : nat_eq n (slice_index_or es place (0, false)).0 ≡ true
-  pub before : (k : ℕ) → k < place → nat_eq n (slice_index_or es k (0, false)).0 ≡ false
+-- the marks where each number has a value: it has a mark where that is not 0
+abbrev pub as_marks : List (ℕ × ℕ) → List (ℕ × Bool)
+as_marks = map (λ e. (e.0, not (eqb e.1 0)))
 
 -- the least number that fails a test
 pub record IsLeastWithout (p : ℕ → Bool) (n : ℕ) : Type 0 where

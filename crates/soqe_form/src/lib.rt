@@ -11,7 +11,6 @@
 mod blocks;
 mod bound_terms;
 mod counts;
-mod few_marks;
 mod form;
 mod free_numbers;
 mod free_preds;

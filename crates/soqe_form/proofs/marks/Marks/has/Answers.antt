@@ -1,14 +1,10 @@
-use Rattle.std.proofs.Common.{◌∙◌, sym, ap}
+use Rattle.std.proofs.Common.{eqb, not, sym, ◌∙◌, ap}
+use Rattle.std.specs.Option.{unwrap_or}
 use Rattle.soqe_form.specs.Marks.{marked}
-use Rattle.soqe_form.proofs.Marked.{marked-at, marked-behind}
+use Rattle.soqe_form.proofs.Marked.{marked-as}
 use Rattle.soqe_form.proofs.marks.Marks.has.Goals as goal
 
-pub returns-in-Some : goal.returns-in-Some
-returns-in-Some c =
-    let at = c.self.inside in
-    c.has.ensures ∙ sym (marked-at c.args.n at.few at.others.entries c.in-Some.place c.in-Some.ensures.first) ∙ ap (λ m. marked m c.args.n) c.self.view_is
-
-pub returns-in-None : goal.returns-in-None
-returns-in-None c =
-    let at = c.self.inside in
-    c.has_in.ensures ∙ sym (marked-behind c.args.n at.few at.others.entries c.in-None.ensures.first) ∙ ap (λ m. marked m c.args.n) c.self.view_is
+pub returns : goal.returns
+returns c =
+    ap (λ v. not (eqb v 0)) (c.unwrap_or.ensures ∙ ap (λ o. unwrap_or o 0) c.get.ensures) ∙ sym (marked-as c.args.n c.self.inside.marks)
+    ∙ ap (λ m. marked m c.args.n) c.self.view_is

@@ -1,37 +1,37 @@
-//! Marks on up to eight numbers.
-ghost use Rattle.std.specs.Prelude.{◌≡◌, ◌==◌, ◌<◌, ◌≤◌, ◌∷◌, [], ◌++◌, length, nat_lt, false, slice_index_or, slice_set, MatchOption, IfSome};
-ghost use Rattle.soqe_form.specs.Marks.{HasNone, IsPlaceOf};
+//! Up to eight numbers, each with a value.
+ghost use Rattle.std.specs.Prelude.{◌≡◌, ◌<◌, ◌≤◌, ◌∷◌, [], ◌++◌, length, nat_lt, slice_index_or, slice_set, MatchOption, IfSome};
+ghost use Rattle.soqe_term.specs.SmallMap.{HasNone, IsPlaceOf};
 
 use std::marker::Model;
 
-/// Of how many numbers the marks can be kept.
+/// How many numbers there can be.
 const FEW: usize = 8;
 
-/// Up to eight numbers, each with its mark or without one, in the order in which they came. They take no memory, and are gone through
-/// for each number that is looked up.
+/// Up to eight numbers, each with its value, in the order in which they came. They take no memory, and are gone through for each
+/// number that is looked up.
 #[derive(Drop)]
-pub struct FewMarks {
-    entries: [(u64, bool); FEW],
+pub struct Few {
+    entries: [(u64, u64); FEW],
     len: usize,
 }
 
-impl Model for FewMarks {
-    ghost use Rattle.std.specs.Prelude.{List, ℕ, Bool, ◌≡◌, ◌≤◌, length, take};
+impl Model for Few {
+    ghost use Rattle.std.specs.Prelude.{List, ℕ, ◌≡◌, ◌≤◌, length, take};
 
-    ghost Value = { List (ℕ × Bool) };
+    ghost Value = { List (ℕ × ℕ) };
 
     ghost view = { λ m. take m.len m.entries };
 
     ghost invariant = { λ m. (m.len ≤ 8) × (length m.entries ≡ 8) };
 }
 
-impl FewMarks {
+impl Few {
     /// No numbers.
-    pub fn new() -> FewMarks
+    pub fn new() -> Few
         ensures { result ≡ [] }
     {
-        FewMarks {
-            entries: [(0, false); FEW],
+        Few {
+            entries: [(0, 0); FEW],
             len: 0,
         }
     }
@@ -64,30 +64,30 @@ impl FewMarks {
         None
     }
 
-    /// Whether the entry at the place has a mark.
-    pub fn has(&self, place: usize) -> bool
+    /// The value of the entry at the place.
+    pub fn at(&self, place: usize) -> u64
         requires within { place < length self.now }
         requires small { place < 8 }
-        ensures { result ≡ (slice_index_or self.now place (0, false)).1 }
+        ensures { result ≡ (slice_index_or self.now place (0, 0)).1 }
     {
         self.entries[place].1
     }
 
     /// Exchanges the entry at the place.
-    pub fn put(&mut self, place: usize, n: u64, mark: bool)
+    pub fn put(&mut self, place: usize, n: u64, value: u64)
         requires within { place < length self.old }
         requires small { place < 8 }
-        ensures { self.new ≡ slice_set self.old place (n, mark) }
+        ensures { self.new ≡ slice_set self.old place (n, value) }
     {
-        self.entries[place] = (n, mark);
+        self.entries[place] = (n, value);
     }
 
     /// Adds a number at the end.
-    pub fn push(&mut self, n: u64, mark: bool)
+    pub fn push(&mut self, n: u64, value: u64)
         requires { length self.old < 8 }
-        ensures { self.new ≡ self.old ++ (n, mark) ∷ [] }
+        ensures { self.new ≡ self.old ++ (n, value) ∷ [] }
     {
-        self.entries[self.len] = (n, mark);
+        self.entries[self.len] = (n, value);
         self.len += 1;
     }
 }
