@@ -1,29 +1,49 @@
 -- What a map of marks says of each number.
-use Rattle.std.proofs.Common.{◌≡◌, ℕ, suc, ◌<◌, ◌≤◌, ◌+◌, Bool, true, false, cond, eqb, ◌||◌, List, [], ◌∷◌, length, take, get_or, Option, Some, refl, sym, ◌∙◌, ap, subst, arith}
+use Rattle.std.proofs.Common.{◌≡◌, ℕ, suc, ◌<◌, ◌≤◌, ◌+◌, Bool, true, false, cond, eqb, not, ◌||◌, List, [], ◌∷◌, length, take, get_or, Option, Some, refl, sym, ◌∙◌, ap, subst, arith}
 use Rattle.std.specs.Map.{lookup, keys_of}
 use Rattle.std.specs.Option.{unwrap_or}
 use Rattle.std.specs.List.{list_any}
-use Rattle.std.proofs.lemmas.Bool.{eqb-true, eqb-false, eq-eqb}
+use Rattle.std.proofs.lemmas.Bool.{eqb-true, eqb-false}
 use Rattle.std.proofs.lemmas.List.Folds.{list_any_more}
 use Rattle.std.proofs.lemmas.List.{length-map}
 use Rattle.std.proofs.lemmas.Map.Steps.{le-length_from_below}
-use Rattle.soqe_term.proofs.Choices.{same_test, bool_cases}
+use Rattle.soqe_term.proofs.Choices.{bool_cases}
+use Rattle.soqe_term.proofs.Renumbered.{eqb_sym}
 use Rattle.soqe_term.specs.World.{changed}
-use Rattle.soqe_form.specs.Marks.{marked, IsLeastWithout, Adds}
+use Rattle.soqe_term.specs.SmallMap.{Sets}
+use Rattle.soqe_form.specs.Marks.{marked, as_marks, IsLeastWithout, Adds}
 
-eqb_sym : (m n : ℕ) → eqb m n ≡ eqb n m
-eqb_sym m n = same_test (eqb m n) (eqb n m) (λ e. eq-eqb n m (sym (eqb-true m n e))) (λ e. eq-eqb m n (sym (eqb-true n m e)))
+mark_of : (b c : Bool) (value : ℕ) (mark : Bool) (o : Option ℕ) → b ≡ c → not (eqb value 0) ≡ mark
+    → not (eqb (unwrap_or (cond b (Some value) o) 0) 0) ≡ cond c mark (not (eqb (unwrap_or o 0) 0))
+mark_of true true value mark o e h = h
+mark_of false false value mark o e h = refl
+mark_of true false value mark o e h = cc
+mark_of false true value mark o e h = cc
 
-mark_of : (b c mark : Bool) (o : Option Bool) → b ≡ c → unwrap_or (cond b (Some mark) o) false ≡ cond c mark (unwrap_or o false)
-mark_of true true mark o e = refl
-mark_of false false mark o e = refl
-mark_of true false mark o e = cc
-mark_of false true mark o e = cc
+-- ---- values that stand for marks
+
+as_step : (b : Bool) (value : ℕ) (o : Option ℕ) (m : Option Bool) → unwrap_or m false ≡ not (eqb (unwrap_or o 0) 0)
+    → unwrap_or (cond b (Some (not (eqb value 0))) m) false ≡ not (eqb (unwrap_or (cond b (Some value) o) 0) 0)
+as_step true value o m h = refl
+as_step false value o m h = h
+
+-- a number has a mark where its value is not 0
+pub marked-as : (n : ℕ) (es : List (ℕ × ℕ)) → marked (as_marks es) n ≡ not (eqb (unwrap_or (lookup (eqb n) es) 0) 0)
+unfolding marked
+marked-as n [] = refl
+marked-as n (e ∷ es) = as_step (eqb n e.0) e.1 (lookup (eqb n) es) (lookup (eqb n) (as_marks es)) (marked-as n es)
+
+pub length-as : (es : List (ℕ × ℕ)) → length (as_marks es) ≡ length es
+length-as es = length-map es (λ (e : ℕ × ℕ). (e.0, not (eqb e.1 0)))
 
 -- the marks after one was set
-pub marked-set : (old new : List (ℕ × Bool)) (n : ℕ) (mark : Bool) → ((q : ℕ) → lookup (eqb q) new ≡ cond (eqb n q) (Some mark) (lookup (eqb q) old)) → marked new ≡ changed (marked old) n mark
-unfolding marked
-marked-set old new n mark h = λ i q. (ap (λ o. unwrap_or o false) (h q) ∙ mark_of (eqb n q) (eqb q n) mark (lookup (eqb q) old) (eqb_sym n q)) i
+pub marked-set : (old new : List (ℕ × ℕ)) (n value : ℕ) (mark : Bool) → not (eqb value 0) ≡ mark → Sets n value old new
+    → marked (as_marks new) ≡ changed (marked (as_marks old)) n mark
+marked-set old new n value mark e h =
+    λ i q. (marked-as q new ∙ ap (λ o. not (eqb (unwrap_or o 0) 0)) (h q) ∙ mark_of (eqb n q) (eqb q n) value mark (lookup (eqb q) old) (eqb_sym n q) e
+    ∙ ap (cond (eqb q n) mark) (sym (marked-as q old))) i
+
+-- ---- the least number without a mark
 
 key_step : (b : Bool) (mark : Bool) (o : Option Bool) (c : Bool) → (unwrap_or o false ≡ true → c ≡ true) → unwrap_or (cond b (Some mark) o) false ≡ true → (b || c) ≡ true
 key_step true mark o c h k = refl
@@ -52,10 +72,11 @@ least_of_all marks h = record {
 }
 
 -- the same where as many numbers as there are marks were tried
-pub least_of_tried : (marks now : List (ℕ × Bool)) (count n : ℕ) → marks ≡ now → count ≡ length marks → count ≤ n → ((k : ℕ) → k < n → marked now k ≡ true) → IsLeastWithout (marked now) count
-least_of_tried marks now count n view len enough h =
-    let all : (k : ℕ) → k < length now → marked now k ≡ true = λ k l. h k (omega (arith, len, ap length view)) in
-    subst (λ m. IsLeastWithout (marked now) m) (sym (len ∙ ap length view)) (least_of_all now all)
+pub least_of_tried : (values : List (ℕ × ℕ)) (marks : List (ℕ × Bool)) (count n : ℕ) → as_marks values ≡ marks → count ≡ length values → count ≤ n
+    → ((k : ℕ) → k < n → marked marks k ≡ true) → IsLeastWithout (marked marks) count
+least_of_tried values marks count n view len enough h =
+    let same : count ≡ length marks = len ∙ sym (length-as values) ∙ ap length view in
+    subst (λ m. IsLeastWithout (marked marks) m) (sym same) (least_of_all marks (λ k l. h k (omega (arith, l, same, enough))))
 
 -- ---- marks that are added
 

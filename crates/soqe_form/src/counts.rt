@@ -3,15 +3,14 @@ ghost use Rattle.std.specs.Prelude.{◌≡◌, ◌+◌, ◌<◌, ◌^◌, ℕ, c
 ghost use Rattle.soqe_term.specs.World.{changed};
 ghost use Rattle.soqe_form.specs.Counts.{counted, Counts as IsMore};
 
-use indexmap::IndexMap;
-use soqe_term::Mem;
+use soqe_term::{Mem, SmallMap};
 use std::alloc::{AllocError, Global};
 use std::marker::Model;
 
-/// A count for each number, 0 where it was not counted. Contracts ask it by `counted`.
+/// A count for each number, 0 where it was not counted. Contracts ask it by `counted`. Up to eight numbers take no memory.
 #[derive(Drop)]
 pub struct Counts {
-    counts: IndexMap<u64, u64>,
+    counts: SmallMap,
 }
 
 impl Model for Counts {
@@ -19,7 +18,7 @@ impl Model for Counts {
 
     ghost Value = { List (ℕ × ℕ) };
 
-    ghost view = { λ c. c.counts.entries };
+    ghost view = { λ c. c.counts };
 }
 
 impl Counts {
@@ -28,7 +27,7 @@ impl Counts {
         ensures { counted result ≡ (λ n. 0) }
     {
         Counts {
-            counts: IndexMap::new(alloc),
+            counts: SmallMap::new(alloc),
         }
     }
 
@@ -44,17 +43,14 @@ impl Counts {
     pub fn of(&self, n: u64) -> u64
         ensures { result ≡ counted self.now n }
     {
-        match self.counts.get(&n) {
-            Some(count) => *count,
-            None => 0,
-        }
+        self.counts.get(n).unwrap_or(0)
     }
 
-    /// Sets the count of a number.
+    /// Sets the count of a number. The first eight numbers take no memory.
     pub fn set(&mut self, n: u64, count: u64) -> Mem<()>
         ensures { OnOk result (counted self.new ≡ changed (counted self.old) n count) }
     {
-        self.counts.insert(n, count)?;
+        self.counts.set(n, count)?;
         Ok(())
     }
 

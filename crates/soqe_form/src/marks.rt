@@ -5,23 +5,23 @@ ghost use Rattle.soqe_form.specs.Marks.{marked, IsLeastWithout};
 ghost use Rattle.soqe_form.specs.Counts.{counted};
 
 use crate::counts::Counts;
-use indexmap::IndexMap;
-use soqe_term::Mem;
+use soqe_term::{Mem, SmallMap};
 use std::alloc::Global;
 use std::marker::Model;
 
-/// Which numbers have a mark. Contracts ask it by `marked`.
+/// Which numbers have a mark: those whose value is not 0. Contracts ask it by `marked`. Up to eight numbers take no memory.
 #[derive(Drop)]
 pub struct Marks {
-    marks: IndexMap<u64, bool>,
+    marks: SmallMap,
 }
 
 impl Model for Marks {
     ghost use Rattle.std.specs.Prelude.{List, ℕ, Bool};
+    ghost use Rattle.soqe_form.specs.Marks.{as_marks};
 
     ghost Value = { List (ℕ × Bool) };
 
-    ghost view = { λ m. m.marks.entries };
+    ghost view = { λ m. as_marks m.marks };
 }
 
 impl Marks {
@@ -30,7 +30,7 @@ impl Marks {
         ensures { marked result ≡ (λ n. false) }
     {
         Marks {
-            marks: IndexMap::new(alloc),
+            marks: SmallMap::new(alloc),
         }
     }
 
@@ -38,17 +38,14 @@ impl Marks {
     pub fn has(&self, n: u64) -> bool
         ensures { result ≡ marked self.now n }
     {
-        match self.marks.get(&n) {
-            Some(mark) => *mark,
-            None => false,
-        }
+        self.marks.get(n).unwrap_or(0) != 0
     }
 
-    /// Sets or takes away the mark of a number.
+    /// Sets or takes away the mark of a number. The first eight numbers take no memory.
     pub fn set(&mut self, n: u64, mark: bool) -> Mem<()>
         ensures { OnOk result (marked self.new ≡ changed (marked self.old) n mark) }
     {
-        self.marks.insert(n, mark)?;
+        self.marks.set(n, value_of(mark))?;
         Ok(())
     }
 
@@ -86,4 +83,11 @@ impl Marks {
         }
         count
     }
+}
+
+/// The value of a number with a mark or without one.
+fn value_of(mark: bool) -> u64
+    ensures { not (eqb result 0) ≡ mark }
+{
+    if mark { 1 } else { 0 }
 }

@@ -178,18 +178,22 @@ fn the_first_block_is_leftmost(rt: HostRuntime) -> Result<(), Fail> {
 #[test]
 fn a_part_is_replaced_at_its_place_alone(rt: HostRuntime) -> Result<(), Fail> {
     let alloc = rt.alloc();
-    let form = two_blocks(alloc)?;
+    let blocks = two_blocks(alloc)?;
+    let constant = truth(alloc)?;
     let by = falsity(alloc)?;
-    let cases: [(&[u64], Option<&[u8]>); 5] = [
-        (&[1], Some(b"|&FXTF")),
-        (&[0, 0], Some(b"|&FXTXP")),
-        (&[0, 1, 0], Some(b"|&FXFXP")),
-        (&[2], None),
-        (&[0, 0, 0], None),
+    let cases: [(&Form, &[u64], Option<&[u8]>); 8] = [
+        (blocks.get(), &[], Some(b"F")),
+        (blocks.get(), &[1], Some(b"|&FXTF")),
+        (blocks.get(), &[0, 0], Some(b"|&FXTXP")),
+        (blocks.get(), &[0, 1, 0], Some(b"|&FXFXP")),
+        (blocks.get(), &[2], None),
+        (blocks.get(), &[0, 0, 0], None),
+        (constant.get(), &[], Some(b"F")),
+        (constant.get(), &[0], None),
     ];
-    for (place, text) in cases {
+    for (form, place, text) in cases {
         let place = Nums::from_vec(place.to_vec(alloc)?);
-        let form = replace_at(alloc, form.get(), &place, by.get())?;
+        let form = replace_at(alloc, form, &place, by.get())?;
         assert!(rt; is_due(alloc, &form, text)?);
     }
     Ok(())

@@ -16,3 +16,4 @@ pub mod EqualTerms
 pub mod Aligned
 pub mod Matches
 pub mod Renumbered
+pub mod SmallMaps

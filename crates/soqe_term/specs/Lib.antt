@@ -23,3 +23,4 @@ pub mod Matching
 pub mod Matched
 pub mod Renumber
 pub mod RenumberLaws
+pub mod SmallMap

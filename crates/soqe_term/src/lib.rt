@@ -10,6 +10,7 @@
 
 mod bindings;
 mod equal;
+mod few;
 mod kinds;
 pub mod laws;
 mod lists;
@@ -19,6 +20,7 @@ mod places;
 mod renaming;
 mod signature;
 mod skolems;
+mod small_map;
 mod sorts;
 mod subst;
 mod term;
@@ -34,6 +36,7 @@ pub use occurrence::{occurs, occurs_in_any};
 pub use renaming::{Renaming, renumber, renumber_all, renumber_all_own, renumber_own};
 pub use signature::Signature;
 pub use skolems::{SkolemSig, SkolemSigs};
+pub use small_map::SmallMap;
 pub use sorts::sort_of;
 use std::alloc::AllocError;
 pub use subst::{replace, replace_all, subst_term};

@@ -5,8 +5,7 @@ ghost use Rattle.std.specs.Prelude.{◌≡◌, IfOk, OnOk};
 ghost use Rattle.soqe_term.specs.World.{changed};
 ghost use Rattle.soqe_term.specs.Renumber.{renames, numbered, renumbered, all_renumbered};
 
-use crate::{Mem, Term, Terms, Var};
-use indexmap::IndexMap;
+use crate::{Mem, SmallMap, Term, Terms, Var};
 use sqlite_items::Boxed;
 use std::alloc::Global;
 use std::marker::Model;
@@ -14,10 +13,10 @@ use std::marker::Model;
 #[cfg(test)]
 mod tests;
 
-/// New numbers for variables; a number without an entry stays. Contracts ask it by `renames`.
+/// New numbers for variables; a number without an entry stays. Contracts ask it by `renames`. Up to eight numbers take no memory.
 #[derive(Drop)]
 pub struct Renaming {
-    numbers: IndexMap<u64, u64>,
+    numbers: SmallMap,
 }
 
 impl Model for Renaming {
@@ -25,7 +24,7 @@ impl Model for Renaming {
 
     ghost Value = { List (ℕ × ℕ) };
 
-    ghost view = { λ r. r.numbers.entries };
+    ghost view = { λ r. r.numbers };
 }
 
 impl Renaming {
@@ -34,7 +33,7 @@ impl Renaming {
         ensures { renames result ≡ (λ n. n) }
     {
         Renaming {
-            numbers: IndexMap::new(alloc),
+            numbers: SmallMap::new(alloc),
         }
     }
 
@@ -42,17 +41,14 @@ impl Renaming {
     pub fn of(&self, n: u64) -> u64
         ensures { result ≡ renames self.now n }
     {
-        match self.numbers.get(&n) {
-            Some(to) => *to,
-            None => n,
-        }
+        self.numbers.get(n).unwrap_or(n)
     }
 
-    /// Sets the number that takes the place of a number.
+    /// Sets the number that takes the place of a number. The first eight numbers take no memory.
     pub fn set(&mut self, n: u64, to: u64) -> Mem<()>
         ensures { OnOk result (renames self.new ≡ changed (renames self.old) n to) }
     {
-        self.numbers.insert(n, to)?;
+        self.numbers.set(n, to)?;
         Ok(())
     }
 }

@@ -1,6 +1,7 @@
 //! Small cases that were worked out by hand: tables of them, read by functions that tell whether a case holds.
 mod bindings;
 mod lists;
+mod maps;
 mod signatures;
 mod sorting;
 mod terms;

@@ -4,4 +4,4 @@ use Rattle.soqe_form.proofs.counts.Counts.new.Goals as goal
 
 pub returns : goal.returns
 unfolding counted
-returns c = ap counted c.new.ensures.empty
+returns c = ap counted c.new.ensures

@@ -6,5 +6,5 @@ use Rattle.soqe_form.proofs.counts.Counts.set.Goals as goal
 
 pub returns : goal.returns
 returns c =
-    counted-set c.self.inside.counts.entries c.insert.new.self.entries c.args.n c.args.count c.in_ok-insert.ensures.updates.0
+    counted-set c.self.inside.counts c.set.new.self c.args.n c.args.count c.in_ok-set.ensures
     ∙ ap (λ m. changed (counted m) c.args.n c.args.count) c.self.view_is

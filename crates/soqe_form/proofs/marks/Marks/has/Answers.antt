@@ -1,13 +1,10 @@
-use Rattle.std.proofs.Common.{◌∙◌, ap}
-use Rattle.std.specs.Prelude.{false}
+use Rattle.std.proofs.Common.{eqb, not, sym, ◌∙◌, ap}
 use Rattle.std.specs.Option.{unwrap_or}
 use Rattle.soqe_form.specs.Marks.{marked}
+use Rattle.soqe_form.proofs.Marked.{marked-as}
 use Rattle.soqe_form.proofs.marks.Marks.has.Goals as goal
 
-pub returns-in-Some : goal.returns-in-Some
-unfolding marked
-returns-in-Some c = ap (λ o. unwrap_or o false) c.in-Some.ensures.value ∙ ap (λ m. marked m c.args.n) c.self.view_is
-
-pub returns-in-None : goal.returns-in-None
-unfolding marked
-returns-in-None c = ap (λ o. unwrap_or o false) c.in-None.ensures.value ∙ ap (λ m. marked m c.args.n) c.self.view_is
+pub returns : goal.returns
+returns c =
+    ap (λ v. not (eqb v 0)) (c.unwrap_or.ensures ∙ ap (λ o. unwrap_or o 0) c.get.ensures) ∙ sym (marked-as c.args.n c.self.inside.marks)
+    ∙ ap (λ m. marked m c.args.n) c.self.view_is

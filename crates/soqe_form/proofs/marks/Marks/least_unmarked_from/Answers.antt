@@ -3,5 +3,5 @@ use Rattle.soqe_form.proofs.marks.Marks.least_unmarked_from.Goals as goal
 
 pub returns : goal.returns
 returns c =
-    least_of_tried c.self.inside.marks.entries c.args.self.now c.len-count.result c.loop-n.n c.self.view_is c.len-count.ensures.len c.loop-n-test.false
+    least_of_tried c.self.inside.marks c.args.self.now c.len-count.result c.loop-n.n c.self.view_is c.len-count.ensures.len c.loop-n-test.false
     c.loop-n.invariant

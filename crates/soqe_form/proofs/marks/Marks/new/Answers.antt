@@ -1,7 +1,7 @@
 use Rattle.std.proofs.Common.{ap}
-use Rattle.soqe_form.specs.Marks.{marked}
+use Rattle.soqe_form.specs.Marks.{marked, as_marks}
 use Rattle.soqe_form.proofs.marks.Marks.new.Goals as goal
 
 pub returns : goal.returns
 unfolding marked
-returns c = ap marked c.new.ensures.empty
+returns c = ap (λ es. marked (as_marks es)) c.new.ensures

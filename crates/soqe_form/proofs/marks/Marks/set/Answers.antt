@@ -6,5 +6,5 @@ use Rattle.soqe_form.proofs.marks.Marks.set.Goals as goal
 
 pub returns : goal.returns
 returns c =
-    marked-set c.self.inside.marks.entries c.insert.new.self.entries c.args.n c.args.mark c.in_ok-insert.ensures.updates.0
+    marked-set c.self.inside.marks c.set.new.self c.args.n c.value_of.result c.args.mark c.value_of.ensures c.in_ok-set.ensures
     ∙ ap (λ m. changed (marked m) c.args.n c.args.mark) c.self.view_is

@@ -4,4 +4,4 @@ use Rattle.soqe_term.proofs.renaming.Renaming.new.Goals as goal
 
 pub returns : goal.returns
 unfolding renames
-returns c = ap renames c.new.ensures.empty
+returns c = ap renames c.new.ensures

@@ -6,5 +6,5 @@ use Rattle.soqe_term.proofs.renaming.Renaming.set.Goals as goal
 
 pub returns : goal.returns
 returns c =
-    renames-set c.self.inside.numbers.entries c.insert.new.self.entries c.args.n c.args.to c.in_ok-insert.ensures.updates.0
+    renames-set c.self.inside.numbers c.set.new.self c.args.n c.args.to c.in_ok-set.ensures
     ∙ ap (λ m. changed (renames m) c.args.n c.args.to) c.self.view_is
