@@ -59,9 +59,8 @@ pub fn exists_in(alloc: Global, vars: &[Var], form: Boxed<Form>) -> Mem<Boxed<Fo
     }
 }
 
-/// The formulas of a list, joined by `&`, true of none. They are moved. It takes one node of memory for each formula, and does
-/// not recurse.
-#[tactic(auto, unfolding(soqe_form::specs::Boxes::boxes), using(crate::proofs::Joins::joined_all))]
+/// The formulas of a list, joined by `&`, true of none. They are moved. It takes one node of memory for each formula after the
+/// first, or for the truth value, and does not recurse.
 pub fn all(alloc: Global, forms: Forms) -> Mem<Boxed<Form>>
     ensures { IfOk result (λ r. r ≡ all_of forms) }
 {
@@ -73,7 +72,7 @@ pub fn all(alloc: Global, forms: Forms) -> Mem<Boxed<Form>>
 }
 
 /// The formula of a case: its variables in front of its conjuncts, which are moved. It takes one node of memory for each variable
-/// and each conjunct, and recurses as deep as there are variables.
+/// and each conjunct at most, and recurses as deep as there are variables.
 pub fn case_form(alloc: Global, case: Case) -> Mem<Boxed<Form>>
     ensures { IfOk result (λ r. r ≡ form_of case.vars case.conj) }
 {
