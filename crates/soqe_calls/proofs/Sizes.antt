@@ -1,12 +1,12 @@
 -- How many nodes the measured formulas have, and those with new numbers.
-use Rattle.std.proofs.Common.{◌≡◌, ℕ, zero, suc, ◌+◌, ◌*◌, List, refl, ap, arith}
+use Rattle.std.proofs.Common.{◌≡◌, ℕ, zero, suc, ◌+◌, ◌*◌, ◌/◌, ◌%◌, List, refl, ◌∙◌, ap, arith}
 use Rattle.soqe_form.specs.declared.form.Form.{Form, True, False, Equal, Atom, Not', And', Or', Imp', Iff', All', Ex', All2', Ex2', end_of-Form as end, more_of-Form as one}
 use Rattle.soqe_form.specs.Boxes.{boxes}
 use Rattle.soqe_term.specs.World.{changed}
 use Rattle.std.specs.Prelude.{length, slice_index}
 use Rattle.soqe_norm.specs.Apart.{binders, renumbered}
 use Rattle.soqe_calls.specs.Nodes.{nodes}
-use Rattle.soqe_calls.specs.Shapes.{wide, bound, negations}
+use Rattle.soqe_calls.specs.Shapes.{wide, bound, negations, chain, rows}
 
 one_part_more : (k n : ℕ) → n ≡ 10 * k + 1 → suc (n + 9) ≡ 10 * suc k + 1
 one_part_more k n e = omega (arith, e)
@@ -31,6 +31,40 @@ pub nodes-negations : (k : ℕ) → nodes (negations k) ≡ k + 1
 unfolding boxes
 nodes-negations zero = refl
 nodes-negations (suc k) = one_more k (nodes (negations k)) (nodes-negations k)
+
+two_more : (k n : ℕ) → n ≡ 2 * k + 1 → suc (n + 1) ≡ 2 * suc k + 1
+two_more k n e = omega (arith, e)
+
+pub nodes-chain : (k : ℕ) → nodes (chain k) ≡ 2 * k + 1
+unfolding boxes
+nodes-chain zero = refl
+nodes-chain (suc k) = two_more k (nodes (chain k)) (nodes-chain k)
+
+one_row_more : (k n m : ℕ) → n ≡ 2000 * k + m → suc (n + 1999) ≡ 2000 * suc k + m
+one_row_more k n m e = omega (arith, e)
+
+-- a row of 1,999 nodes and its sign are 2,000
+pub nodes-rows : (k : ℕ) (row first : Form) → nodes row ≡ 1999 → nodes (rows k row first) ≡ 2000 * k + nodes first
+unfolding boxes
+nodes-rows zero row first e = omega arith
+nodes-rows (suc k) row first e =
+    ap (λ n. suc (nodes (rows k row first) + n)) e ∙ one_row_more k (nodes (rows k row first)) (nodes first) (nodes-rows k row first e)
+
+rest_of_rows : (n m : ℕ) → m ≡ n % 2000 + 1 → 2000 * (n / 2000) + m ≡ n + 1
+rest_of_rows n m e = omega (arith, e)
+
+rest_of_chains : (n m : ℕ) → m ≡ 2 * (n % 2000 / 2) + 1 → 2000 * (n / 2000) + m ≡ 2 * (n / 2) + 1
+rest_of_chains n m e = omega (arith, e)
+
+pub nodes-negation-rows : (n : ℕ) → nodes (rows (n / 2000) (negations 1998) (negations (n % 2000))) ≡ n + 1
+nodes-negation-rows n =
+    nodes-rows (n / 2000) (negations 1998) (negations (n % 2000)) (nodes-negations 1998)
+    ∙ rest_of_rows n (nodes (negations (n % 2000))) (nodes-negations (n % 2000))
+
+pub nodes-chain-rows : (n : ℕ) → nodes (rows (n / 2000) (chain 999) (chain (n % 2000 / 2))) ≡ 2 * (n / 2) + 1
+nodes-chain-rows n =
+    nodes-rows (n / 2000) (chain 999) (chain (n % 2000 / 2)) (nodes-chain 999)
+    ∙ rest_of_chains n (nodes (chain (n % 2000 / 2))) (nodes-chain (n % 2000 / 2))
 
 both : (a b c d : ℕ) → a ≡ c → b ≡ d → suc (a + b) ≡ suc (c + d)
 both a b c d e h = λ i. suc (e i + h i)

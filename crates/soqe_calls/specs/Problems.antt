@@ -8,7 +8,7 @@ use Rattle.soqe_form.specs.declared.form.Form.{Form}
 use Rattle.soqe_text.specs.declared.problem.Problem.{Problem}
 use Rattle.soqe_text.specs.declared.problem.Problem.TheVariants as problem
 use Rattle.soqe_calls.specs.declared.words.Shape.{Shape}
-use Rattle.soqe_calls.specs.declared.words.Shape.TheVariants.{Wide, Deep, Mixed, Negations}
+use Rattle.soqe_calls.specs.declared.words.Shape.TheVariants.{Wide, Deep, Mixed, Negations, NegationRows, ChainRows}
 use Rattle.soqe_calls.specs.Shapes.{shaped}
 
 -- a name that stands for a kind of thing
@@ -22,6 +22,7 @@ predicates =
     ∷ declared (codes "P") (kind.Pred (0 ∷ 0 ∷ 0 ∷ []))
     ∷ declared (codes "Q") (kind.Pred (0 ∷ []))
     ∷ declared (codes "R") (kind.Pred (0 ∷ 0 ∷ 0 ∷ 0 ∷ []))
+    ∷ declared (codes "A") (kind.Pred [])
     ∷ []
 
 -- the name of a variable: v with its number
@@ -39,6 +40,8 @@ variables Wide n = n / 10 + 4
 variables Deep n = 4
 variables Mixed n = n / 20 + 4
 variables Negations n = 4
+variables NegationRows n = 4
+variables ChainRows n = 4
 
 -- the problem whose goal is the formula of a shape and a size
 abbrev pub problem_of : Shape → ℕ → Problem

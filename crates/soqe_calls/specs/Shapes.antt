@@ -8,7 +8,7 @@ use Rattle.soqe_term.specs.declared.term.Terms.{Terms, Nil, Cons}
 use Rattle.soqe_form.specs.declared.form.Pred.TheVariants.{Decl}
 use Rattle.soqe_form.specs.declared.form.Form.{Form, True, Equal, Atom, Not, And, Imp, All, Ex}
 use Rattle.soqe_calls.specs.declared.words.Shape.{Shape}
-use Rattle.soqe_calls.specs.declared.words.Shape.TheVariants.{Wide, Deep, Mixed, Negations}
+use Rattle.soqe_calls.specs.declared.words.Shape.TheVariants.{Wide, Deep, Mixed, Negations, NegationRows, ChainRows}
 
 -- the variable with a number, of the first sort
 abbrev pub variable : ℕ → Var
@@ -50,12 +50,28 @@ abbrev pub negations : ℕ → Form
 negations zero = core
 negations (suc k) = Not (negations k)
 
+-- A
+abbrev pub alone : Form
+alone = Atom (Decl 3) Nil
+
+-- A & A & .. & A with so many signs
+abbrev pub chain : ℕ → Form
+chain zero = alone
+chain (suc k) = And (chain k) alone
+
+-- a formula and so many times a row behind it
+abbrev pub rows : ℕ → Form → Form → Form
+rows zero row first = first
+rows (suc k) row first = And (rows k row first) row
+
 -- the formula of a shape and a size
 abbrev pub shaped : Shape → ℕ → Form
 shaped Wide n = wide (n / 10)
 shaped Deep n = bound (n / 4) core
 shaped Mixed n = bound (n / 8) (wide (n / 20))
 shaped Negations n = negations n
+shaped NegationRows n = rows (n / 2000) (negations 1998) (negations (n % 2000))
+shaped ChainRows n = rows (n / 2000) (chain 999) (chain (n % 2000 / 2))
 
 -- how many nodes the formula of a shape and a size has
 abbrev pub size_of : Shape → ℕ → ℕ
@@ -63,3 +79,5 @@ size_of Wide n = 10 * (n / 10) + 1
 size_of Deep n = n / 4 + 1
 size_of Mixed n = n / 8 + (10 * (n / 20) + 1)
 size_of Negations n = n + 1
+size_of NegationRows n = n + 1
+size_of ChainRows n = 2 * (n / 2) + 1

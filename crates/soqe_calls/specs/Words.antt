@@ -5,7 +5,7 @@ use Rattle.std.specs.Str.{bytes_eq}
 use Rattle.soqe_calls.specs.declared.words.Call.{Call}
 use Rattle.soqe_calls.specs.declared.words.Call.TheVariants.{Nothing, Nodes, FreeVars, Copy, Same, Tidy, Subst, SubstRenaming, Apart, Nnf, Simplify}
 use Rattle.soqe_calls.specs.declared.words.Shape.{Shape}
-use Rattle.soqe_calls.specs.declared.words.Shape.TheVariants.{Wide, Deep, Mixed, Negations}
+use Rattle.soqe_calls.specs.declared.words.Shape.TheVariants.{Wide, Deep, Mixed, Negations, NegationRows, ChainRows}
 use Rattle.soqe_calls.specs.declared.words.Plan.{Plan}
 use Rattle.soqe_calls.specs.declared.words.Plan.TheVariants.{Numbers, LeastUnused, Formula, Cases, Text}
 use Rattle.soqe_calls.specs.declared.words.TextCall.TheVariants as text
@@ -17,6 +17,8 @@ shape_named name =
     else if bytes_eq name (codes "deep") then Some Deep
     else if bytes_eq name (codes "mixed") then Some Mixed
     else if bytes_eq name (codes "negations") then Some Negations
+    else if bytes_eq name (codes "negation_rows") then Some NegationRows
+    else if bytes_eq name (codes "chain_rows") then Some ChainRows
     else None
 
 -- the call of this name, of those that make no new formula

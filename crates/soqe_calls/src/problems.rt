@@ -32,6 +32,7 @@ fn variables(shape: Shape, size: u32) -> u32
         Shape::Wide => size / 10 + 4,
         Shape::Mixed => size / 20 + 4,
         Shape::Deep | Shape::Negations => 4,
+        Shape::NegationRows | Shape::ChainRows => 4,
     }
 }
 
@@ -58,6 +59,8 @@ fn predicates(alloc: Global) -> Mem<Signature>
     declare(&mut names, "Q", Kind::Pred { args: one })?;
     let four = sorts(alloc, &[0, 0, 0, 0])?;
     declare(&mut names, "R", Kind::Pred { args: four })?;
+    let none = Sorts::new(alloc);
+    declare(&mut names, "A", Kind::Pred { args: none })?;
     Ok(names)
 }
 

@@ -8,11 +8,11 @@ ghost use Rattle.soqe_form.specs.declared.form.Pred.TheVariants.{Decl};
 ghost use Rattle.soqe_form.specs.declared.form.Form.{Equal, Atom, Not};
 ghost use Rattle.soqe_calls.specs.Listed.{AreBelow};
 ghost use Rattle.soqe_calls.specs.Nodes.{nodes};
-ghost use Rattle.soqe_calls.specs.Shapes.{variable, with_first as with_first_of, image as image_of, part as part_of, core as core_of, wide as wide_of, bound as bound_of, negations as negations_of, shaped as shaped_of, size_of};
+ghost use Rattle.soqe_calls.specs.Shapes.{variable, with_first as with_first_of, image as image_of, part as part_of, core as core_of, wide as wide_of, bound as bound_of, negations as negations_of, alone as alone_of, chain as chain_of, rows as rows_of, shaped as shaped_of, size_of};
 
 use crate::words::Shape;
 use soqe_form::make::{conjunction, constant, equation, exists, for_all, implication, negation};
-use soqe_form::{Form, Pred};
+use soqe_form::{Form, Pred, copy_boxed};
 use soqe_term::{Mem, Nums, Sym, Term, Terms, Var};
 use sqlite_items::Boxed;
 use std::alloc::Global;
@@ -38,6 +38,8 @@ pub fn shaped(alloc: Global, shape: Shape, size: u32) -> Mem<Boxed<Form>>
         Shape::Deep => deep(alloc, size / 4),
         Shape::Mixed => mixed(alloc, size / 8, size / 20),
         Shape::Negations => negations(alloc, size),
+        Shape::NegationRows => negation_rows(alloc, size),
+        Shape::ChainRows => chain_rows(alloc, size),
     }
 }
 
@@ -89,6 +91,55 @@ fn negations(alloc: Global, count: u32) -> Mem<Boxed<Form>>
         made = negation(alloc, made)?;
     }
     Ok(made)
+}
+
+/// Rows of 1,998 negations before that atom, each with its sign 2,000 nodes, behind a row that has the rest.
+fn negation_rows(alloc: Global, size: u32) -> Mem<Boxed<Form>>
+    ensures { IfOk result (λ f. f ≡ rows_of (size / 2000) (negations_of 1998) (negations_of (size % 2000))) }
+{
+    let row = negations(alloc, 1_998)?;
+    let first = negations(alloc, size % 2_000)?;
+    rows(alloc, size / 2_000, &row, first)
+}
+
+/// Chains of 1,000 atoms, each with its sign 2,000 nodes, behind a chain that has the rest.
+fn chain_rows(alloc: Global, size: u32) -> Mem<Boxed<Form>>
+    ensures { IfOk result (λ f. f ≡ rows_of (size / 2000) (chain_of 999) (chain_of (size % 2000 / 2))) }
+{
+    let row = chain(alloc, 999)?;
+    let first = chain(alloc, size % 2_000 / 2)?;
+    rows(alloc, size / 2_000, &row, first)
+}
+
+/// A formula with so many copies of a row behind it, folded to the left.
+fn rows(alloc: Global, count: u32, row: &Boxed<Form>, first: Boxed<Form>) -> Mem<Boxed<Form>>
+    ensures { IfOk result (λ f. f ≡ rows_of count row.now first) }
+{
+    let mut made = first;
+    for _k in 0..count {
+        let next = copy_boxed(alloc, row)?;
+        made = conjunction(alloc, made, next)?;
+    }
+    Ok(made)
+}
+
+/// An atom without arguments, and so many times a sign and the atom again.
+fn chain(alloc: Global, signs: u32) -> Mem<Boxed<Form>>
+    ensures { IfOk result (λ f. f ≡ chain_of signs) }
+{
+    let mut made = alone(alloc)?;
+    for _k in 0..signs {
+        let next = alone(alloc)?;
+        made = conjunction(alloc, made, next)?;
+    }
+    Ok(made)
+}
+
+/// The atom without arguments.
+fn alone(alloc: Global) -> Mem<Boxed<Form>>
+    ensures { IfOk result (λ f. f ≡ alone_of) }
+{
+    Boxed::new(alloc, Form::Atom(Pred::Decl(3), Terms::Nil))
 }
 
 /// One part of a wide formula, with a free variable of its own.

@@ -46,6 +46,10 @@ pub enum Shape {
     Mixed,
     /// Negations before an atom.
     Negations,
+    /// A conjunction of rows of negations, each before an atom.
+    NegationRows,
+    /// A conjunction of chains of atoms without arguments.
+    ChainRows,
 }
 
 /// What the words ask for.
@@ -154,6 +158,10 @@ fn read_shape(name: &str) -> Option<Shape>
         Some(Shape::Mixed)
     } else if name == "negations" {
         Some(Shape::Negations)
+    } else if name == "negation_rows" {
+        Some(Shape::NegationRows)
+    } else if name == "chain_rows" {
+        Some(Shape::ChainRows)
     } else {
         None
     }

@@ -2,7 +2,7 @@ use Rattle.std.proofs.Common.{◌∙◌, ◌/◌, ◌+◌, ap, sym}
 use Rattle.std.proofs.lemmas.Result.{IfOk-weaker}
 use Rattle.soqe_calls.specs.Nodes.{nodes}
 use Rattle.soqe_calls.specs.Shapes.{core, wide, size_of}
-use Rattle.soqe_calls.proofs.Sizes.{nodes-wide, nodes-bound, nodes-negations}
+use Rattle.soqe_calls.proofs.Sizes.{nodes-wide, nodes-bound, nodes-negations, nodes-negation-rows, nodes-chain-rows}
 use Rattle.soqe_calls.proofs.shapes.shaped.Goals as goal
 
 pub returns-in-Wide-clause-nodes : goal.returns-in-Wide-clause-nodes
@@ -23,3 +23,11 @@ returns-in-Mixed-clause-nodes c =
 pub returns-in-Negations-clause-nodes : goal.returns-in-Negations-clause-nodes
 returns-in-Negations-clause-nodes c =
     IfOk-weaker c.negations.result _ _ (λ f e. ap nodes e ∙ nodes-negations c.args.size ∙ ap (λ s. size_of s c.args.size) (sym c.in-Negations.is)) c.negations.ensures
+
+pub returns-in-NegationRows-clause-nodes : goal.returns-in-NegationRows-clause-nodes
+returns-in-NegationRows-clause-nodes c =
+    IfOk-weaker c.negation_rows.result _ _ (λ f e. ap nodes e ∙ nodes-negation-rows c.args.size ∙ ap (λ s. size_of s c.args.size) (sym c.in-NegationRows.is)) c.negation_rows.ensures
+
+pub returns-in-ChainRows-clause-nodes : goal.returns-in-ChainRows-clause-nodes
+returns-in-ChainRows-clause-nodes c =
+    IfOk-weaker c.chain_rows.result _ _ (λ f e. ap nodes e ∙ nodes-chain-rows c.args.size ∙ ap (λ s. size_of s c.args.size) (sym c.in-ChainRows.is)) c.chain_rows.ensures
