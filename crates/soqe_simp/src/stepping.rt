@@ -6,7 +6,9 @@ ghost use Rattle.soqe_simp.specs.Stepped.{stepped};
 
 use crate::conjuncts::{Passed, find};
 use crate::parts::denied;
-use crate::questions::{denies, is_denied, is_false, is_free_pred, is_implication, is_negation, is_true};
+use crate::questions::{
+    denies, is_denied, is_false, is_free_pred, is_implication, is_negation, is_true,
+};
 use crate::results::{gives, with_solution};
 use crate::rewriting::Rewritten;
 use crate::rows::{conditional_solution, denied_solution, excluded, joined};
