@@ -4,14 +4,13 @@
 ghost use Rattle.std.specs.Prelude.{◌≡◌, IfOk};
 ghost use Rattle.soqe_simp.specs.Stepped.{stepped};
 
-use crate::conjuncts::{Passed, find};
 use crate::parts::denied;
 use crate::questions::{
     denies, is_denied, is_false, is_free_pred, is_implication, is_negation, is_true,
 };
-use crate::results::{gives, with_solution};
+use crate::results::gives;
 use crate::rewriting::Rewritten;
-use crate::rows::{conditional_solution, denied_solution, excluded, joined};
+use crate::rows::{excluded, joined, solved_condition, solved_negation, solved_some};
 use soqe_form::{Form, is_free, same};
 use soqe_term::Mem;
 use sqlite_items::Boxed;
@@ -64,6 +63,7 @@ macro_rules! rows {
 }
 
 /// The first row that applies at the root, with what it gives; or the formula itself.
+#[tactic(auto, using(crate::proofs::Signs::no_negation, crate::proofs::Signs::no_implication), unfolding(soqe_form::specs::Boxes::boxes))]
 pub fn take_step(alloc: Global, form: Form) -> Mem<Stepped>
     ensures { IfOk result (λ r. r ≡ stepped form) }
 {
@@ -117,12 +117,12 @@ pub fn take_step(alloc: Global, form: Form) -> Mem<Stepped>
         }
         Form::All(x, a) {
             33 if !is_free(a.get(), x.num) => a;
-            36 if let Some(found) = denied_solution(alloc, x, a.get())? => with_solution(alloc, x, found)?;
-            37 if let Some(found) = conditional_solution(alloc, x, a.get())? => with_solution(alloc, x, found)?;
+            36 if let Some(made) = solved_negation(alloc, x, a.get())? => made;
+            37 if let Some(made) = solved_condition(alloc, x, a.get())? => made;
         }
         Form::Ex(x, a) {
             33 if !is_free(a.get(), x.num) => a;
-            35 if let Some(found) = find(alloc, x, a.get(), &Passed::Nothing)? => with_solution(alloc, x, found)?;
+            35 if let Some(made) = solved_some(alloc, x, a.get())? => made;
         }
         Form::All2(p, a) {
             34 if !is_free_pred(a.get(), p.num) => a;
