@@ -6,6 +6,7 @@ pub mod OrRows
 pub mod ImpRows
 pub mod IffRows
 pub mod Options
+mod Signs
 pub mod Points
 pub mod Vacuous
 pub mod Ignoring

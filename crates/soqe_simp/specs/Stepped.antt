@@ -1,7 +1,6 @@
 -- A step that takes the formula: what the row gave, or the formula itself where no row applies.
-use Rattle.std.specs.Prelude.{Option, Some, None}
-use Rattle.soqe_form.specs.declared.form.Form.{Form, True, Not', Imp', end_of-Form as end, more_of-Form as one}
-use Rattle.soqe_simp.specs.declared.parts.Implication.{Implication}
+use Rattle.std.specs.Prelude.{Bool, true, false, Option, Some, None}
+use Rattle.soqe_form.specs.declared.form.Form.{Form, Not', Imp', end_of-Form as end, more_of-Form as one}
 use Rattle.soqe_simp.specs.declared.rewriting.Rewritten.{Rewritten}
 use Rattle.soqe_simp.specs.declared.stepping.Stepped.{Stepped}
 use Rattle.soqe_simp.specs.declared.stepping.Stepped.TheVariants.{Settled, Made}
@@ -16,12 +15,12 @@ stepped_by (Some r) f = Made r
 abbrev pub stepped : Form → Stepped
 stepped f = stepped_by (step f) f
 
--- A of ~A, and true of any other formula
-abbrev pub denied : Form → Form
-denied (Not' _ (one f end)) = f
-denied _ = True
+-- the formula is ~A for some A
+abbrev pub is_negation : Form → Bool
+is_negation (Not' _ (one f end)) = true
+is_negation _ = false
 
--- C and D of C -> D, and true of any other formula
-abbrev pub parts : Form → Implication
-parts (Imp' _ (one f end) _ (one g end)) = record { condition = f; conclusion = g }
-parts _ = record { condition = True; conclusion = True }
+-- the formula is A -> B for some A and B
+abbrev pub is_implication : Form → Bool
+is_implication (Imp' _ (one f end) _ (one g end)) = true
+is_implication _ = false

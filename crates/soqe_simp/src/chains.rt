@@ -6,8 +6,7 @@ ghost use Rattle.soqe_simp.specs.Chains.{is_quantified as is_quantified_of, quan
 ghost use Rattle.soqe_simp.specs.Stepped.{stepped};
 ghost use Rattle.soqe_simp.specs.Weight.{weight};
 
-use crate::rows::{at_existential, at_universal};
-use crate::stepping::Stepped;
+use crate::stepping::{Stepped, take_step};
 use soqe_form::Form;
 use soqe_form::make::{exists, for_all};
 use soqe_term::{Mem, Var};
@@ -107,8 +106,8 @@ pub fn step_quantified(alloc: Global, quantifier: Quantifier, form: Boxed<Form>)
     ensures { IfOk result (λ r. r ≡ stepped (quantified_of quantifier form)) }
 {
     if quantifier.universal {
-        at_universal(alloc, quantifier.variable, form)
+        take_step(alloc, Form::All(quantifier.variable, form))
     } else {
-        at_existential(alloc, quantifier.variable, form)
+        take_step(alloc, Form::Ex(quantifier.variable, form))
     }
 }

@@ -1,15 +1,12 @@
 //! A formula taken apart whose root is known.
 #![tactic(auto, unfolding(soqe_form::specs::Boxes::boxes))]
 
-ghost use Rattle.std.specs.Prelude.{◌≡◌, IfOk};
-ghost use Rattle.soqe_simp.specs.Stepped.{denied as denied_of, parts as parts_of};
-ghost use Rattle.soqe_form.specs.declared.form.Form.{True};
+ghost use Rattle.std.specs.Prelude.{◌≡◌, true};
+ghost use Rattle.soqe_form.specs.declared.form.Form.{Not, Imp};
+ghost use Rattle.soqe_simp.specs.Stepped.{is_negation, is_implication};
 
 use soqe_form::Form;
-use soqe_form::make::constant;
-use soqe_term::Mem;
 use sqlite_items::Boxed;
-use std::alloc::Global;
 
 /// C and D of C -> D.
 #[derive(Drop)]
@@ -19,57 +16,26 @@ pub struct Implication {
 }
 
 /// A of ~A.
-pub fn denied(alloc: Global, form: Boxed<Form>) -> Mem<Boxed<Form>>
-    ensures { IfOk result (λ r. r ≡ denied_of form) }
+pub fn denied(form: Boxed<Form>) -> Boxed<Form>
+    requires { is_negation form ≡ true }
+    ensures { form ≡ Not result }
 {
     match form.into_inner() {
-        Form::Not(f) => Ok(f),
-        Form::True
-        | Form::False
-        | Form::Equal(_, _)
-        | Form::Atom(_, _)
-        | Form::And(_, _)
-        | Form::Or(_, _)
-        | Form::Imp(_, _)
-        | Form::Iff(_, _)
-        | Form::All(_, _)
-        | Form::Ex(_, _)
-        | Form::All2(_, _)
-        | Form::Ex2(_, _) => constant(alloc, true),
+        Form::Not(a) => a,
+        _ => unreachable!(),
     }
 }
 
 /// C and D of C -> D.
-pub fn implication_parts(alloc: Global, form: Boxed<Form>) -> Mem<Implication>
-    ensures { IfOk result (λ r. r ≡ parts_of form) }
+pub fn implication_parts(form: Boxed<Form>) -> Implication
+    requires { is_implication form ≡ true }
+    ensures { form ≡ Imp result.condition result.conclusion }
 {
     match form.into_inner() {
-        Form::Imp(condition, conclusion) => Ok(Implication {
+        Form::Imp(condition, conclusion) => Implication {
             condition,
             conclusion,
-        }),
-        Form::True
-        | Form::False
-        | Form::Equal(_, _)
-        | Form::Atom(_, _)
-        | Form::Not(_)
-        | Form::And(_, _)
-        | Form::Or(_, _)
-        | Form::Iff(_, _)
-        | Form::All(_, _)
-        | Form::Ex(_, _)
-        | Form::All2(_, _)
-        | Form::Ex2(_, _) => no_parts(alloc),
+        },
+        _ => unreachable!(),
     }
-}
-
-fn no_parts(alloc: Global) -> Mem<Implication>
-    ensures { IfOk result (λ r. r ≡ parts_of True) }
-{
-    let condition = constant(alloc, true)?;
-    let conclusion = constant(alloc, true)?;
-    Ok(Implication {
-        condition,
-        conclusion,
-    })
 }

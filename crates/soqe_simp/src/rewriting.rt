@@ -23,7 +23,6 @@ pub fn step(alloc: Global, form: &Form) -> Mem<Option<Rewritten>>
     ensures exact { IfOk result (λ r. r ≡ step_of form.now) }
 {
     let copy = form.copy(alloc)?;
-    let copy = Boxed::new(alloc, copy)?;
     match take_step(alloc, copy)? {
         Stepped::Settled(_) => Ok(None),
         Stepped::Made(made) => Ok(Some(made)),

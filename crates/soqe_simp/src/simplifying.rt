@@ -14,11 +14,7 @@ use crate::chains::{
 };
 use crate::known::{Known, know, learn, may_be_defined, pass};
 use crate::rewriting::Rewritten;
-use crate::rows::{
-    at_and, at_equal, at_existential, at_existential_block, at_iff, at_imp, at_not, at_or,
-    at_universal, at_universal_block,
-};
-use crate::stepping::{Stepped, settled_atom, settled_constant, take_step};
+use crate::stepping::{Stepped, take_step};
 use soqe_form::Form;
 use soqe_term::Mem;
 use sqlite_items::Boxed;
@@ -61,49 +57,49 @@ fn step_at_root(alloc: Global, form: Boxed<Form>) -> Mem<Stepped>
     ensures { IfOk result (λ r. r ≡ stepped_of (on_children simple form)) }
 {
     match form.into_inner() {
-        Form::True => settled_constant(alloc, true),
-        Form::False => settled_constant(alloc, false),
-        Form::Equal(s, t) => at_equal(alloc, s, t),
-        Form::Atom(p, ts) => settled_atom(alloc, p, ts),
+        Form::True => take_step(alloc, Form::True),
+        Form::False => take_step(alloc, Form::False),
+        Form::Equal(s, t) => take_step(alloc, Form::Equal(s, t)),
+        Form::Atom(p, ts) => take_step(alloc, Form::Atom(p, ts)),
         Form::Not(f) => {
             let f = simplify(alloc, f)?;
-            at_not(alloc, f)
+            take_step(alloc, Form::Not(f))
         }
         Form::And(f, g) => {
             let f = simplify(alloc, f)?;
             let g = simplify(alloc, g)?;
-            at_and(alloc, f, g)
+            take_step(alloc, Form::And(f, g))
         }
         Form::Or(f, g) => {
             let f = simplify(alloc, f)?;
             let g = simplify(alloc, g)?;
-            at_or(alloc, f, g)
+            take_step(alloc, Form::Or(f, g))
         }
         Form::Imp(f, g) => {
             let f = simplify(alloc, f)?;
             let g = simplify(alloc, g)?;
-            at_imp(alloc, f, g)
+            take_step(alloc, Form::Imp(f, g))
         }
         Form::Iff(f, g) => {
             let f = simplify(alloc, f)?;
             let g = simplify(alloc, g)?;
-            at_iff(alloc, f, g)
+            take_step(alloc, Form::Iff(f, g))
         }
         Form::All(x, f) => {
             let f = simplify(alloc, f)?;
-            at_universal(alloc, x, f)
+            take_step(alloc, Form::All(x, f))
         }
         Form::Ex(x, f) => {
             let f = simplify(alloc, f)?;
-            at_existential(alloc, x, f)
+            take_step(alloc, Form::Ex(x, f))
         }
         Form::All2(p, f) => {
             let f = simplify(alloc, f)?;
-            at_universal_block(alloc, p, f)
+            take_step(alloc, Form::All2(p, f))
         }
         Form::Ex2(p, f) => {
             let f = simplify(alloc, f)?;
-            at_existential_block(alloc, p, f)
+            take_step(alloc, Form::Ex2(p, f))
         }
     }
 }
@@ -114,7 +110,7 @@ fn settle(alloc: Global, form: Boxed<Form>) -> Mem<Boxed<Form>>
     requires { Children IsSimple form }
     ensures { IfOk result (λ r. r ≡ simple form) }
 {
-    let stepped = take_step(alloc, form)?;
+    let stepped = take_step(alloc, form.into_inner())?;
     finish(alloc, stepped)
 }
 
@@ -157,12 +153,12 @@ fn settle_first(alloc: Global, form: Boxed<Form>) -> Mem<Boxed<Form>>
     match form.into_inner() {
         Form::Not(a) => {
             let a = settle(alloc, a)?;
-            let stepped = at_not(alloc, a)?;
+            let stepped = take_step(alloc, Form::Not(a))?;
             finish(alloc, stepped)
         }
         Form::Imp(a, d) => {
             let a = settle(alloc, a)?;
-            let stepped = at_imp(alloc, a, d)?;
+            let stepped = take_step(alloc, Form::Imp(a, d))?;
             finish(alloc, stepped)
         }
         _ => unreachable!(),

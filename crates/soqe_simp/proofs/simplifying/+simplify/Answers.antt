@@ -20,15 +20,17 @@ use Rattle.soqe_simp.proofs.Knowing.{each-place, last-place_of, last-knows, othe
 use Rattle.soqe_simp.proofs.simplifying.+simplify.Goals as goal
 
 pub settle-finish-requires : goal.settle-finish-requires
-settle-finish-requires t c = (
-  omega (arith, stepped-lighter c.args.form c.in_ok-stepped.stepped c.in_ok-stepped.ensures),
-  stepped-ready c.args.form c.in_ok-stepped.stepped c.requires c.in_ok-stepped.ensures,
-)
+settle-finish-requires t c =
+    let taken : c.in_ok-stepped.stepped ≡ stepped c.args.form = c.in_ok-stepped.ensures ∙ ap stepped c.into_inner.ensures in (
+      omega (arith, stepped-lighter c.args.form c.in_ok-stepped.stepped taken),
+      stepped-ready c.args.form c.in_ok-stepped.stepped c.requires taken,
+    )
 
 pub settle-returns : goal.settle-returns
 settle-returns t c =
+    let taken : c.in_ok-stepped.stepped ≡ stepped c.args.form = c.in_ok-stepped.ensures ∙ ap stepped c.into_inner.ensures in
     IfOk-weaker c.finish.result (λ r. r ≡ finished c.in_ok-stepped.stepped) (λ r. r ≡ simplify c.args.form)
-    (λ r e. finished-simple c.args.form c.in_ok-stepped.stepped r c.requires c.in_ok-stepped.ensures e) c.finish.ensures
+    (λ r e. finished-simple c.args.form c.in_ok-stepped.stepped r c.requires taken e) c.finish.ensures
 
 -- ---- ~A
 
