@@ -74,13 +74,7 @@ pub fn put_beside(alloc: Global, form: &Form, place: &[u64], by: Boxed<Form>) ->
 
 /// The formula with `by` at a place below its root.
 #[cycle(put_beside)]
-fn put_below(
-    alloc: Global,
-    form: &Form,
-    child: u64,
-    rest: &[u64],
-    by: Boxed<Form>,
-) -> Mem<Form>
+fn put_below(alloc: Global, form: &Form, child: u64, rest: &[u64], by: Boxed<Form>) -> Mem<Form>
     ensures { IfOk result (λ r. r ≡ put_at (child ∷ rest.now) by form.now) }
 {
     let first = child == 0;

@@ -5,7 +5,9 @@ mod sameness;
 mod tidying;
 mod variables;
 
-use crate::{Block, Form, Forms, PVar, Pred, copy_boxed, first_block, make, replace_at};
+use crate::{
+    Block, Form, Forms, PVar, Pred, copy_boxed, find_block, first_block, make, replace_at,
+};
 use soqe_term::{Mem, Nums, Sorts, Term, Terms, Var};
 use sqlite_items::Boxed;
 use std::alloc::Global;
@@ -172,6 +174,23 @@ fn the_first_block_is_leftmost(rt: HostRuntime) -> Result<(), Fail> {
     let form = two_blocks(alloc)?;
     let block = first_block(alloc, form.get())?;
     assert!(rt; is_block(alloc, &block, &[0, 1], true, 0, b"T")?);
+    Ok(())
+}
+
+#[test]
+fn the_first_block_is_found_where_it_stands(rt: HostRuntime) -> Result<(), Fail> {
+    let alloc = rt.alloc();
+    let form = two_blocks(alloc)?;
+    let Some(block) = find_block(alloc, form.get())? else {
+        panic!(rt; "no block is found");
+    };
+    assert_eq!(rt; block.place.as_slice(), [0, 1].as_slice());
+    assert_eq!(rt;
+        (block.exists, block.pred.num, letter(block.body)),
+        (true, 0, b'T')
+    );
+    let truth = truth(alloc)?;
+    assert!(rt; find_block(alloc, truth.get())?.is_none());
     Ok(())
 }
 

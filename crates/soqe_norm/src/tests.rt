@@ -13,7 +13,7 @@ use soqe_form::make::{
     conjunction, disjunction, equivalence, exists, exists_table, for_all, for_all_tables,
     implication, negation,
 };
-use soqe_form::{Block, Form, PVar, Pred};
+use soqe_form::{BlockRef, Form, PVar, Pred};
 use soqe_term::{Mem, Nums, Sorts, Term, Terms, Var};
 use sqlite_items::Boxed;
 use std::alloc::Global;
@@ -241,11 +241,12 @@ fn chooses_values(rt: HostRuntime) -> Result<(), Fail> {
     ];
     for (text, below_exists, below_all) in cases {
         for (exists, value) in [(true, below_exists), (false, below_all)] {
-            let block = Block {
+            let body = made(alloc, text)?;
+            let block = BlockRef {
                 place: Nums::new(alloc),
                 exists,
-                pred: binder(alloc, 0),
-                body: made(alloc, text)?,
+                pred: &binder(alloc, 0),
+                body: body.get(),
             };
             assert_eq!(rt; value_for(&block), value);
         }

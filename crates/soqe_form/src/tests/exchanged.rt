@@ -1,6 +1,6 @@
-//! A part exchanged in a formula that is owned.
+//! A part exchanged in a formula that is owned, and in one that is lent.
 use super::{falsity, is_spelled, two_blocks};
-use crate::put_in;
+use crate::{put_beside, put_in};
 use soqe_term::Mem;
 use std::alloc::Global;
 use std::test::Fail;
@@ -8,8 +8,10 @@ use std::test::Fail;
 fn is_put(alloc: Global, place: &[u64], text: &[u8]) -> Mem<bool> {
     let form = two_blocks(alloc)?;
     let by = falsity(alloc)?;
+    let beside = put_beside(alloc, form.get(), place, by)?;
+    let by = falsity(alloc)?;
     let form = put_in(alloc, form, place, by)?;
-    is_spelled(alloc, &form, text)
+    Ok(is_spelled(alloc, &beside, text)? && is_spelled(alloc, &form, text)?)
 }
 
 #[test]
