@@ -1,8 +1,8 @@
 -- What is known of the formula behind a chain of quantifiers stays right while they are put back.
-use Rattle.std.proofs.Common.{◌≡◌, ℕ, suc, ◌+◌, ◌<◌, ◌≤◌, Bool, true, false, cond, eqb, ◌||◌, List, [], ◌∷◌, ◌++◌, length, length-append, Option, Some, None, refl, sym, ◌∙◌, ap, subst, arith}
+use Rattle.std.proofs.Common.{◌≡◌, ℕ, suc, ◌+◌, ◌<◌, ◌≤◌, Bool, true, false, cond, eqb, ◌||◌, List, [], ◌∷◌, ◌++◌, length, length-append, Some, refl, sym, ◌∙◌, ap, subst, arith}
 use Rattle.std.specs.Prelude.{slice_get}
 use Rattle.std.specs.Option.{option_map}
-use Rattle.std.proofs.lemmas.Bool.{eqb-true, eqb-false, eq-eqb}
+use Rattle.std.proofs.lemmas.Bool.{eqb-true, eqb-false}
 use Rattle.std.proofs.lemmas.Option.{slice_get_within}
 use Rattle.soqe_term.specs.World.{changed}
 use Rattle.soqe_term.specs.declared.term.Var.{Var}
@@ -17,8 +17,7 @@ use Rattle.soqe_form.specs.Boxes.{boxes}
 use Rattle.soqe_form.proofs.SameCases.{never}
 use Rattle.soqe_simp.specs.declared.chains.Quantifier.{Quantifier}
 use Rattle.soqe_simp.specs.declared.known.Known.{Known}
-use Rattle.soqe_simp.specs.Conjuncts.{around, solved, below_alls, solved_not, solved_imp}
-use Rattle.soqe_simp.specs.Sides.{has_side, has_condition}
+use Rattle.soqe_simp.specs.Conjuncts.{around}
 use Rattle.soqe_simp.specs.Ready.{IsSimple}
 use Rattle.soqe_simp.specs.Simplified.{simplify}
 use Rattle.soqe_simp.specs.Chains.{quantified}

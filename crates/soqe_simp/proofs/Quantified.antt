@@ -1,5 +1,5 @@
 -- Quantifiers in front of formulas: their weight, what is free, and how they are made simple.
-use Rattle.std.proofs.Common.{◌≡◌, ℕ, ◌+◌, ◌≤◌, Bool, true, false, cond, eqb, not, List, [], ◌∷◌, ◌++◌, length, Some, None, refl, sym, ◌∙◌, ap, subst, arith}
+use Rattle.std.proofs.Common.{◌≡◌, ℕ, ◌+◌, ◌≤◌, Bool, true, false, cond, eqb, not, List, [], ◌∷◌, ◌++◌, Some, None, refl, sym, ◌∙◌, ap, subst, arith}
 use Rattle.std.specs.Option.{option_map}
 use Rattle.soqe_term.specs.declared.term.Var.{Var}
 use Rattle.soqe_term.proofs.Choices.{by_cases}
@@ -10,10 +10,10 @@ use Rattle.soqe_simp.specs.declared.chains.Quantifier.{Quantifier}
 use Rattle.soqe_simp.specs.Weight.{weight}
 use Rattle.soqe_simp.specs.Shapes.{given, first_of}
 use Rattle.soqe_simp.specs.Conjuncts.{solved, below_alls, solved_not, solved_imp}
-use Rattle.soqe_simp.specs.Rows.{rows, with_solution}
+use Rattle.soqe_simp.specs.Rows.{with_solution}
 use Rattle.soqe_simp.specs.Step.{by_row, step}
 use Rattle.soqe_simp.specs.Ready.{Children, IsSimple}
-use Rattle.soqe_simp.specs.Simplified.{on_children, then_on, simplify}
+use Rattle.soqe_simp.specs.Simplified.{then_on, simplify}
 use Rattle.soqe_simp.specs.Chains.{is_quantified, quantified, quantify}
 use Rattle.soqe_simp.proofs.Simple.{simplify-simple, simple-stays}
 use Rattle.soqe_simp.proofs.Simplifies.{simplify-keeps}

@@ -4,7 +4,6 @@ use Rattle.std.proofs.Common.{◌≡◌, ℕ, ◌<◌, Bool, true, false, cond, 
 use Rattle.std.specs.Option.{option_map}
 use Rattle.std.proofs.lemmas.Bool.{eqb-true, eq-eqb, or_left, ltb-true}
 use Rattle.soqe_term.specs.World.{changed}
-use Rattle.soqe_term.specs.Boxes.{boxes as boxes-t}
 use Rattle.soqe_term.specs.Occurs.{occurs, occurs_any}
 use Rattle.soqe_term.specs.Unused.{member}
 use Rattle.soqe_term.specs.Equal.{equal_terms}

@@ -1,6 +1,5 @@
 -- What is made of a formula by the step that was taken at its root.
 use Rattle.soqe_form.specs.declared.form.Form.{Form}
-use Rattle.soqe_simp.specs.declared.rewriting.Rewritten.{Rewritten}
 use Rattle.soqe_simp.specs.declared.stepping.Stepped.{Stepped}
 use Rattle.soqe_simp.specs.declared.stepping.Stepped.TheVariants.{Settled, Made}
 use Rattle.soqe_simp.specs.Simplified.{simplify}

@@ -2,7 +2,7 @@
 //!
 //! Read `specs/Rows.antt` first: each row, and the table of them. `specs/Step.antt` says which row applies at the root of a
 //! formula, `specs/Simplified.antt` what is left when no row applies any more, and `specs/Normal.antt` what that means.
-//! `specs/RowTables.antt` has the names of the rows.
+//! `specs/RowTables.antt` has the names of the rows. In code the table of the rows is one call of a macro in `src/stepping.rt`.
 #![tactic(auto)]
 
 mod chains;

@@ -8,6 +8,7 @@ ghost use Rattle.soqe_simp.specs.Stepped.{is_negation as is_negation_of, is_impl
 ghost use Rattle.soqe_simp.specs.Ends.{ends_in_negation as ends_in_negation_of, ends_in_implication as ends_in_implication_of};
 
 use soqe_form::{Form, Pred, has_free_pred, same};
+use sqlite_items::Boxed;
 
 /// Whether the formula is true.
 pub fn is_true(form: &Form) -> bool
@@ -115,11 +116,11 @@ pub fn is_denied(form: &Form, other: &Form) -> bool
 }
 
 /// Whether the formula is ~A for an A with which the other is the same.
-pub fn denies(form: &Form, other: &Form) -> bool
+pub fn denies(form: &Boxed<Form>, other: &Boxed<Form>) -> bool
     ensures { result ≡ is_not (λ f. same_of f other.now) form.now }
 {
-    match form {
-        Form::Not(f) => same(f.get(), other),
+    match form.get() {
+        Form::Not(f) => same(f.get(), other.get()),
         Form::True
         | Form::False
         | Form::Equal(_, _)

@@ -86,7 +86,7 @@ pub fn take_step(alloc: Global, form: Form) -> Mem<Stepped>
             8 if is_false(b.get()) => Form::False;
             9 if same(a.get(), b.get()) => a;
             10 if is_denied(b.get(), a.get()) => Form::False;
-            11 if denies(a.get(), b.get()) => Form::False;
+            11 if denies(&a, &b) => Form::False;
         }
         Form::Or(a, b) {
             12 if is_true(a.get()) => Form::True;
@@ -95,7 +95,7 @@ pub fn take_step(alloc: Global, form: Form) -> Mem<Stepped>
             15 if is_false(b.get()) => a;
             16 if same(a.get(), b.get()) => a;
             17 if is_denied(b.get(), a.get()) => Form::True;
-            18 if denies(a.get(), b.get()) => Form::True;
+            18 if denies(&a, &b) => Form::True;
             19 if is_negation(a.get()) => Form::Imp(denied(a), b);
             20 if is_negation(b.get()) => Form::Imp(denied(b), a);
         }

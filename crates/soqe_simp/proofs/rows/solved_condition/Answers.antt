@@ -1,4 +1,4 @@
-use Rattle.std.proofs.Common.{[], sym, ◌∙◌}
+use Rattle.std.proofs.Common.{sym, ◌∙◌}
 use Rattle.soqe_simp.proofs.SolvedRows.{solved_imp-sort}
 use Rattle.soqe_simp.proofs.rows.solved_condition.Goals as goal
 

@@ -1,4 +1,4 @@
-use Rattle.std.proofs.Common.{[], sym, ◌∙◌}
+use Rattle.std.proofs.Common.{sym, ◌∙◌}
 use Rattle.soqe_simp.proofs.SolvedRows.{solved-sort}
 use Rattle.soqe_simp.proofs.rows.solved_some.Goals as goal
 
