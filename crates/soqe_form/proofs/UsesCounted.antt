@@ -4,7 +4,6 @@ use Rattle.std.proofs.lemmas.List.{map-append}
 use Rattle.soqe_term.specs.declared.term.Var.{Var}
 use Rattle.std.proofs.lemmas.Bool.{eqb-true, eq-eqb, both_ways}
 use Rattle.soqe_term.specs.World.{changed}
-use Rattle.soqe_term.proofs.Worlds.{eqb-self}
 use Rattle.soqe_term.proofs.Renumbered.{eqb_sym}
 use Rattle.soqe_term.specs.declared.term.Term.{Term}
 use Rattle.soqe_term.specs.declared.term.Terms.{Terms}
