@@ -13,7 +13,7 @@ ghost use Rattle.soqe_ack.specs.Signs.{is_pos};
 use crate::dividing::{Divided, Share, divide};
 use crate::params::parameters;
 use crate::steps::Sign;
-use soqe_form::{Form, Forms, PVar, Pred};
+use soqe_form::{Form, PVar, Pred};
 use soqe_norm::case_list::Case;
 use soqe_norm::folding::{and_next, exists_in, made_or};
 use soqe_norm::nnf::nnf;
@@ -36,7 +36,8 @@ pub struct Acked {
 /// the case nor are in `keep`.
 ///
 /// It walks each conjunct once for its parts, and once for its signs where it is no guard; a conjunct without the predicate
-/// is copied, and so is one that gets the value, which is put in only where the predicate stands. The recursion is as deep as the case and the answer.
+/// is copied, and so is one that gets the value, which is put in only where the predicate stands. The recursion is as deep
+/// as the case and the answer.
 pub fn apply(alloc: Global, case: &Case, pred: &PVar, sign: Sign, keep: &Nums) -> Mem<Option<Acked>>
     ensures exact { IfOk result (λ r. IsApplied (is_pos sign) pred.now keep.now case.now.vars case.now.conj r) }
     ensures truth { IfOk result (λ r. AppliedIsAlike pred.now case.now.vars case.now.conj r) }
