@@ -1,6 +1,6 @@
 //! Elimination of a block's predicate, case by case.
 
-ghost use Rattle.std.specs.Prelude.{◌≡◌, ◌+◌, ◌<◌, IfOk};
+ghost use Rattle.std.specs.Prelude.{◌+◌, ◌<◌, IfOk};
 ghost use Rattle.soqe_dls.specs.Parts.{WritesCase, WritesTry};
 ghost use Rattle.soqe_dls.specs.RunLaws.{EndsTrue};
 ghost use Rattle.soqe_dls.specs.Runs.{EndsRun, IsAnswer};
@@ -39,7 +39,7 @@ pub fn dls(alloc: Global, form: &Form, pred: &PVar, keep: &Nums) -> Mem<DlsEnd>
     run(alloc, cases, pred, keep)
 }
 
-/// The steps of the cases, and how they end. Each case is moved, and gone once its tidy form is made.
+/// The steps of the cases, and how they end. Each case is moved: its parts become the formula of its step.
 fn run(alloc: Global, cases: CaseList, pred: &PVar, keep: &Nums) -> Mem<DlsEnd>
     ensures { IfOk result (λ end. EndsRun keep.now pred.now cases end) }
 {
@@ -103,17 +103,11 @@ fn write_try(
     requires { AreDistinct tried.params }
     ensures { IfOk result (λ form. WritesTry keep.now pred.now tried steps.old steps.new form) }
 {
-    let Tried {
-        sign,
-        params,
-        value,
-        form,
-    } = tried;
-    let shown = shown(alloc, &params, value.get(), keep)?;
-    let form = tidy(alloc, form, keep)?;
+    let shown = shown(alloc, &tried.params, tried.value.get(), keep)?;
+    let form = tidy(alloc, tried.form, keep)?;
     let gives = copy_boxed(alloc, &form)?;
     steps.push(DlsStep::Ack {
-        sign,
+        sign: tried.sign,
         pred: Pred::Bound(pred.num),
         params: shown.params,
         value: shown.value,

@@ -13,8 +13,8 @@ use soqe_term::{Mem, Nums};
 use sqlite_items::Boxed;
 use std::alloc::Global;
 
-/// The case whose formula is tidy. Its parts are moved: it takes the time and memory of `tidy`, and recurses as deep as its
-/// formula.
+/// The case whose formula is tidy. Its parts are moved: it takes the time and memory of `tidy`, and for each variable and each
+/// conjunct those of a node and of a place in a list. It recurses as deep as its formula.
 pub(crate) fn tidy_case(alloc: Global, case: Case, keep: &Nums) -> Mem<Case>
     ensures { IfOk result (λ r. IsTidyCase keep.now case.vars case.conj r.vars r.conj) }
 {

@@ -35,7 +35,7 @@ loop-case-preserved c =
     let same : c.loop-case.left.len ≡ length c.loop-case.left.items = c.loop-case.left.ok.0 in
     let within : length c.loop-case.left.items ≤ c.len-count.result = c.loop-case.invariant.1 in (
       subst (λ (f : Form). Leads c.args.keep.now c.args.pred.now c.args.cases (reverse c.pop.new.self.items) (c.len-count.result - length c.pop.new.self.items) c.write_case.new.steps (Some f))
-          (sym c.in_ok-joined.ensures)
+          (sym c.in_ok-joined-in-Some-2.ensures)
           (leads-reached c.args.keep.now c.args.pred.now c.args.cases (reverse c.loop-case.left.items) (c.len-count.result - length c.loop-case.left.items) c.loop-case.steps c.loop-case.so_far
           c.loop-case.invariant.0 c.in-Some.case (reverse c.pop.new.self.items) (ap reverse c.in-Some.ensures.items ∙ reverse-append c.pop.new.self.items (c.in-Some.case ∷ []))
           c.write_case.new.steps (c.len-count.result - length c.pop.new.self.items) (omega arith) c.in-Some-2.form

@@ -10,6 +10,6 @@ take_case-requires c =
       vars = t.vars;
       conj = t.conj;
       is = c.in_ok-form-2.ensures ∙ ap (tidy c.args.keep.now) c.in_ok-form.ensures ∙ t.is;
-      as_many_vars = t.as_many_vars ∙ sym (ap length c.as_slice.ensures);
+      as_many_vars = t.as_many_vars ∙ sym (ap length c.as_slice-variables.ensures);
       as_many = t.as_many ∙ sym c.len-conjuncts.ensures;
     }
