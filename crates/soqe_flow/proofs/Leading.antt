@@ -14,12 +14,19 @@ use Rattle.soqe_deriv.specs.declared.document.Stop.TheVariants as stop
 use Rattle.soqe_flow.specs.declared.derivation.Wanted.{Wanted}
 use Rattle.soqe_flow.specs.declared.derivation.Wanted.TheVariants as wanted
 use Rattle.soqe_flow.specs.declared.blocks.BlockEnd.TheVariants as block
-use Rattle.soqe_flow.specs.Ordered.{Ending, Result, Stops, Follows, result, sign, mixed, dls, not_reached, stands_with, closed, sign_lines, normal, closed_by, cases_lines, lost_lines}
+use Rattle.soqe_flow.specs.Ordered.{Result, Stops, Follows, result, sign, mixed, dls, not_reached, stands_with, closed, sign_lines, normal, closed_by, cases_lines, lost_lines}
 use Rattle.soqe_flow.proofs.FewerBlocks.{fewer-sign, fewer-cases}
 use Rattle.soqe_flow.specs.Running.{Derives, HasRun, Leads, WritesBlock, IsMixed, mixed_lines}
 
-pub leads-start : (keep : List ℕ) (w : Wanted) (g : Form) → Leads keep w g (line.Start g ∷ []) g
-leads-start keep w g ls e k = record { lines = ls; are = refl; follow = k }
+-- of a formula without blocks
+pub run-bare : (keep : List ℕ) (w : Wanted) (g : Form) → first_block g ≡ None → HasRun keep w g (line.Start g ∷ line.Result g ∷ line.End ∷ []) None
+run-bare keep w g h = (g, record { lines = line.Result g ∷ line.End ∷ []; are = refl; follow = result h })
+
+-- over the lines of the first block
+pub leads-first : (keep : List ℕ) (w : Wanted) (g : Form) (place : List ℕ) (part : Form) (steps : List Line) → WritesBlock keep w g [] steps (block.Closed place part)
+    → Leads keep w g (line.Start g ∷ steps) (stands_with keep g place part)
+leads-first keep w g place part steps h ms e r =
+    record { lines = steps ++ ms; are = refl; follow = subst (λ ls. Follows keep w g (ls ++ ms) e) (sym h.1) (h.2 ms e r) }
 
 -- over the lines of a block
 pub leads-on : (keep : List ℕ) (w : Wanted) (g f : Form) (place : List ℕ) (part : Form) (old new : List Line) → Leads keep w g old f

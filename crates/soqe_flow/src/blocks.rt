@@ -80,8 +80,7 @@ fn begun(alloc: Global, start: Boxed<Form>, more: Lines) -> Mem<Lines>
 /// The run of a formula without blocks, which is copied once.
 fn without_blocks(alloc: Global, start: Boxed<Form>) -> Mem<Run>
     requires { block_of start ≡ None }
-    ensures { IfOk result (λ run. run.lines ≡ Start start ∷ Result start ∷ End ∷ []) }
-    ensures stop { IfOk result (λ run. run.stop ≡ None) }
+    ensures { IfOk result (λ run. (run.lines ≡ Start start ∷ Result start ∷ End ∷ []) × (run.stop ≡ None)) }
 {
     let mut lines = Lines::new(alloc);
     let line = copy_boxed(alloc, &start)?;
@@ -91,13 +90,7 @@ fn without_blocks(alloc: Global, start: Boxed<Form>) -> Mem<Run>
 }
 
 /// The lines of a derivation that has come to a formula, which goes on from there.
-fn go_on(
-    alloc: Global,
-    begun: Lines,
-    form: Boxed<Form>,
-    wanted: Wanted,
-    keep: &Nums,
-) -> Mem<Run>
+fn go_on(alloc: Global, begun: Lines, form: Boxed<Form>, wanted: Wanted, keep: &Nums) -> Mem<Run>
     ensures { IfOk result (λ run. (g : Formula) → Leads keep.now wanted g begun form → HasRun keep.now wanted g run.lines run.stop) }
 {
     let mut lines = begun;

@@ -1,5 +1,4 @@
-use Rattle.std.proofs.Common.{◌≡◌, ◌∷◌, ◌++◌, [], ◌∙◌, ap, subst}
-use Rattle.soqe_deriv.specs.declared.document.Line.TheVariants as line
+use Rattle.std.proofs.Common.{◌≡◌, ◌++◌, ◌∙◌, ap, subst}
 use Rattle.soqe_dls.specs.declared.elimination.DlsEnd.TheVariants as end
 use Rattle.soqe_dls.specs.Runs.{IsAnswer}
 use Rattle.soqe_form.specs.Found.{seen}
