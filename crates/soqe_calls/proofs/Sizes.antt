@@ -6,7 +6,7 @@ use Rattle.soqe_term.specs.World.{changed}
 use Rattle.std.specs.Prelude.{length, slice_index}
 use Rattle.soqe_norm.specs.Apart.{binders, renumbered}
 use Rattle.soqe_calls.specs.Nodes.{nodes}
-use Rattle.soqe_calls.specs.Shapes.{wide, bound, negations, chain, rows}
+use Rattle.soqe_calls.specs.Shapes.{wide, bound, negations, chain, negation_row, chain_row, rows}
 
 one_part_more : (k n : ℕ) → n ≡ 10 * k + 1 → suc (n + 9) ≡ 10 * suc k + 1
 one_part_more k n e = omega (arith, e)
@@ -40,6 +40,14 @@ unfolding boxes
 nodes-chain zero = refl
 nodes-chain (suc k) = two_more k (nodes (chain k)) (nodes-chain k)
 
+nodes-negation-row : nodes negation_row ≡ 1999
+unfolding negation_row
+nodes-negation-row = nodes-negations 1998
+
+nodes-chain-row : nodes chain_row ≡ 1999
+unfolding chain_row
+nodes-chain-row = nodes-chain 999
+
 one_row_more : (k n m : ℕ) → n ≡ 2000 * k + m → suc (n + 1999) ≡ 2000 * suc k + m
 one_row_more k n m e = omega (arith, e)
 
@@ -56,14 +64,14 @@ rest_of_rows n m e = omega (arith, e)
 rest_of_chains : (n m : ℕ) → m ≡ 2 * (n % 2000 / 2) + 1 → 2000 * (n / 2000) + m ≡ 2 * (n / 2) + 1
 rest_of_chains n m e = omega (arith, e)
 
-pub nodes-negation-rows : (n : ℕ) → nodes (rows (n / 2000) (negations 1998) (negations (n % 2000))) ≡ n + 1
+pub nodes-negation-rows : (n : ℕ) → nodes (rows (n / 2000) negation_row (negations (n % 2000))) ≡ n + 1
 nodes-negation-rows n =
-    nodes-rows (n / 2000) (negations 1998) (negations (n % 2000)) (nodes-negations 1998)
+    nodes-rows (n / 2000) negation_row (negations (n % 2000)) nodes-negation-row
     ∙ rest_of_rows n (nodes (negations (n % 2000))) (nodes-negations (n % 2000))
 
-pub nodes-chain-rows : (n : ℕ) → nodes (rows (n / 2000) (chain 999) (chain (n % 2000 / 2))) ≡ 2 * (n / 2) + 1
+pub nodes-chain-rows : (n : ℕ) → nodes (rows (n / 2000) chain_row (chain (n % 2000 / 2))) ≡ 2 * (n / 2) + 1
 nodes-chain-rows n =
-    nodes-rows (n / 2000) (chain 999) (chain (n % 2000 / 2)) (nodes-chain 999)
+    nodes-rows (n / 2000) chain_row (chain (n % 2000 / 2)) nodes-chain-row
     ∙ rest_of_chains n (nodes (chain (n % 2000 / 2))) (nodes-chain (n % 2000 / 2))
 
 both : (a b c d : ℕ) → a ≡ c → b ≡ d → suc (a + b) ≡ suc (c + d)

@@ -59,6 +59,14 @@ abbrev pub chain : ℕ → Form
 chain zero = alone
 chain (suc k) = And (chain k) alone
 
+-- a row of negations, which has 1,999 nodes
+unfoldable pub negation_row : Form
+negation_row = negations 1998
+
+-- a chain of 1,000 atoms, which has 1,999 nodes
+unfoldable pub chain_row : Form
+chain_row = chain 999
+
 -- a formula and so many times a row behind it
 abbrev pub rows : ℕ → Form → Form → Form
 rows zero row first = first
@@ -70,8 +78,8 @@ shaped Wide n = wide (n / 10)
 shaped Deep n = bound (n / 4) core
 shaped Mixed n = bound (n / 8) (wide (n / 20))
 shaped Negations n = negations n
-shaped NegationRows n = rows (n / 2000) (negations 1998) (negations (n % 2000))
-shaped ChainRows n = rows (n / 2000) (chain 999) (chain (n % 2000 / 2))
+shaped NegationRows n = rows (n / 2000) negation_row (negations (n % 2000))
+shaped ChainRows n = rows (n / 2000) chain_row (chain (n % 2000 / 2))
 
 -- how many nodes the formula of a shape and a size has
 abbrev pub size_of : Shape → ℕ → ℕ

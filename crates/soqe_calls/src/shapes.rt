@@ -1,14 +1,14 @@
 //! The list and the formulas on which calls are measured, made by loops.
 #![tactic(auto, unfolding(soqe_term::specs::Boxes::boxes, soqe_form::specs::Boxes::boxes))]
 
-ghost use Rattle.std.specs.Prelude.{◌≡◌, IfOk};
+ghost use Rattle.std.specs.Prelude.{◌≡◌, ◌/◌, ◌%◌, IfOk};
 ghost use Rattle.soqe_term.specs.declared.term.Term.{Var as var};
 ghost use Rattle.soqe_term.specs.declared.term.Terms.{Nil};
 ghost use Rattle.soqe_form.specs.declared.form.Pred.TheVariants.{Decl};
 ghost use Rattle.soqe_form.specs.declared.form.Form.{Equal, Atom, Not};
 ghost use Rattle.soqe_calls.specs.Listed.{AreBelow};
 ghost use Rattle.soqe_calls.specs.Nodes.{nodes};
-ghost use Rattle.soqe_calls.specs.Shapes.{variable, with_first as with_first_of, image as image_of, part as part_of, core as core_of, wide as wide_of, bound as bound_of, negations as negations_of, alone as alone_of, chain as chain_of, rows as rows_of, shaped as shaped_of, size_of};
+ghost use Rattle.soqe_calls.specs.Shapes.{variable, with_first as with_first_of, image as image_of, part as part_of, core as core_of, wide as wide_of, bound as bound_of, negations as negations_of, alone as alone_of, chain as chain_of, negation_row as negation_row_of, chain_row as chain_row_of, rows as rows_of, shaped as shaped_of, size_of};
 
 use crate::words::Shape;
 use soqe_form::make::{conjunction, constant, equation, exists, for_all, implication, negation};
@@ -93,22 +93,38 @@ fn negations(alloc: Global, count: u32) -> Mem<Boxed<Form>>
     Ok(made)
 }
 
-/// Rows of 1,998 negations before that atom, each with its sign 2,000 nodes, behind a row that has the rest.
+/// Rows of negations, each with its sign 2,000 nodes, behind a row that has the rest.
 fn negation_rows(alloc: Global, size: u32) -> Mem<Boxed<Form>>
-    ensures { IfOk result (λ f. f ≡ rows_of (size / 2000) (negations_of 1998) (negations_of (size % 2000))) }
+    ensures { IfOk result (λ f. f ≡ rows_of (size / 2000) negation_row_of (negations_of (size % 2000))) }
 {
-    let row = negations(alloc, 1_998)?;
+    let row = negation_row(alloc)?;
     let first = negations(alloc, size % 2_000)?;
     rows(alloc, size / 2_000, &row, first)
 }
 
-/// Chains of 1,000 atoms, each with its sign 2,000 nodes, behind a chain that has the rest.
+/// Chains of atoms, each with its sign 2,000 nodes, behind a chain that has the rest.
 fn chain_rows(alloc: Global, size: u32) -> Mem<Boxed<Form>>
-    ensures { IfOk result (λ f. f ≡ rows_of (size / 2000) (chain_of 999) (chain_of (size % 2000 / 2))) }
+    ensures { IfOk result (λ f. f ≡ rows_of (size / 2000) chain_row_of (chain_of (size % 2000 / 2))) }
 {
-    let row = chain(alloc, 999)?;
+    let row = chain_row(alloc)?;
     let first = chain(alloc, size % 2_000 / 2)?;
     rows(alloc, size / 2_000, &row, first)
+}
+
+/// 1,998 negations before an atom.
+#[tactic(auto, unfolding(crate::specs::Shapes::negation_row))]
+fn negation_row(alloc: Global) -> Mem<Boxed<Form>>
+    ensures { IfOk result (λ f. f ≡ negation_row_of) }
+{
+    negations(alloc, 1_998)
+}
+
+/// 1,000 atoms without arguments, with 999 signs.
+#[tactic(auto, unfolding(crate::specs::Shapes::chain_row))]
+fn chain_row(alloc: Global) -> Mem<Boxed<Form>>
+    ensures { IfOk result (λ f. f ≡ chain_row_of) }
+{
+    chain(alloc, 999)
 }
 
 /// A formula with so many copies of a row behind it, folded to the left.
