@@ -2,14 +2,17 @@ ghost use Rattle.std.specs.Prelude.{IfOk, codes};
 ghost use Rattle.soqe_run.specs.Reply.{IsFixed, line};
 
 use crate::Status;
+use soqe_deriv::Document;
 use soqe_io::Mem;
 use std::alloc::Global;
 
-/// A status and the text that goes with it.
+/// A status and the text that goes with it. The document that the text is of, where there is one, is held until the text has gone:
+/// a large block that is given back behind many small ones costs the allocator a walk over all of these.
 #[derive(Drop)]
 pub struct Reply {
     pub status: Status,
     pub text: Vec<u8>,
+    pub document: Option<Document>,
 }
 
 /// The reply to words that aren't taken.
@@ -39,5 +42,9 @@ pub(crate) fn fixed(alloc: Global, status: Status, text: &str) -> Mem<Reply>
     ensures { IfOk result (λ reply. IsFixed status text.now reply.status reply.text.items) }
 {
     let text = text.as_bytes().to_vec(alloc)?;
-    Ok(Reply { status, text })
+    Ok(Reply {
+        status,
+        text,
+        document: None,
+    })
 }

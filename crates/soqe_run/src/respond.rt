@@ -58,15 +58,12 @@ fn stop_status(stop: Stop) -> Status
 fn written(alloc: Global, status: Status, document: Document) -> Mem<Reply>
     ensures { IfOk result (λ reply. IsFixed status (document_text document) reply.status reply.text.items) }
 {
-    let text = text_of(alloc, document)?;
-    Ok(Reply { status, text })
-}
-
-// The text of a document, which is needed no longer.
-fn text_of(alloc: Global, document: Document) -> Mem<Vec<u8>>
-    ensures { IfOk result (λ text. text.items ≡ document_text document) }
-{
-    write_document(alloc, &document)
+    let text = write_document(alloc, &document)?;
+    Ok(Reply {
+        status,
+        text,
+        document: Some(document),
+    })
 }
 
 // The reply to a text that is refused, with the words in front of the offset.
@@ -77,5 +74,6 @@ fn refused_at(alloc: Global, status: Status, words: &str, at: u64) -> Mem<Reply>
     Ok(Reply {
         status,
         text: text.into_bytes(),
+        document: None,
     })
 }
