@@ -1,6 +1,10 @@
+use Rattle.soqe_run.proofs.Ends.{ends_delivered}
 use Rattle.soqe_run.proofs.Headline.{solved}
 use Rattle.soqe_run.proofs.run.run.Goals as goal
 
 pub returns-in-Ok-clause-headline : goal.returns-in-Ok-clause-headline
 returns-in-Ok-clause-headline g c =
     solved _ _ _ _ _ _ _ _ _ _ c.in-Ok.ensures.due c.deliver.ensures.ways
+
+pub returns-in-Ok-clause-ways : goal.returns-in-Ok-clause-ways
+returns-in-Ok-clause-ways g c = ends_delivered _ _ _ _ _ _ _ c.in-Ok.ensures.due c.deliver.ensures.ways
