@@ -21,7 +21,8 @@ pub fn answer_text(alloc: Global, call: TextCall, shape: Shape, size: u32) -> Me
 {
     match call {
         TextCall::Problem => {
-            let _problem = problem(alloc, shape, size)?;
+            let problem = problem(alloc, shape, size)?;
+            problem.let_go();
             Ok(0)
         }
         TextCall::Print => {
@@ -40,7 +41,9 @@ fn printed(alloc: Global, shape: Shape, size: u32) -> Mem<String>
     ensures { IfOk result (λ text. string_bytes text ≡ problem_text (problem_of shape size)) }
 {
     let problem = problem(alloc, shape, size)?;
-    show_problem(alloc, &problem)
+    let text = show_problem(alloc, &problem)?;
+    problem.let_go();
+    Ok(text)
 }
 
 /// How many nodes the goal has that the text spells, and 0 where it is refused. Want of memory stands for a text of 2^32
@@ -54,7 +57,7 @@ fn read(alloc: Global, text: &str) -> Mem<u64>
         return Err(AllocError);
     }
     match read_problem(alloc, Command::Elim, bytes) {
-        Ok(problem) => goal_nodes(&problem),
+        Ok(problem) => goal_nodes(problem),
         Err(TextFault::Memory) => Err(AllocError),
         Err(TextFault::Syntax(_)) => Ok(0),
         Err(TextFault::Names(_)) => Ok(0),
@@ -62,10 +65,15 @@ fn read(alloc: Global, text: &str) -> Mem<u64>
     }
 }
 
-fn goal_nodes(problem: &Problem) -> Mem<u64>
-    ensures { IfOk result (λ n. n ≡ nodes_of (goal_of problem.now)) }
+/// The nodes of the goal, which is let go once they are counted.
+fn goal_nodes(problem: Problem) -> Mem<u64>
+    ensures { IfOk result (λ n. n ≡ nodes_of (goal_of problem)) }
 {
     match problem {
-        Problem::Elim { goal, .. } => count_nodes(goal),
+        Problem::Elim { sig: _sig, goal } => {
+            let count = count_nodes(&goal)?;
+            goal.let_go();
+            Ok(count)
+        }
     }
 }

@@ -122,6 +122,39 @@ impl Form {
             }
         }
     }
+
+    /// Lets go of the formula. A loop goes through negations, bodies and right sides, so that it takes a frame of the call stack for
+    /// each left side within a left side, where a formula that goes out of scope takes one for each node on a path.
+    #[cycle(let_go)]
+    pub fn let_go(self) {
+        let mut rest = self;
+        loop {
+            rest = match rest {
+                Form::True => return,
+                Form::False => return,
+                Form::Equal(_left, _right) => return,
+                Form::Atom(_pred, _args) => return,
+                Form::Not(f) => f.into_inner(),
+                Form::And(f, g) => let_go_of_left(f, g),
+                Form::Or(f, g) => let_go_of_left(f, g),
+                Form::Imp(f, g) => let_go_of_left(f, g),
+                Form::Iff(f, g) => let_go_of_left(f, g),
+                Form::All(_x, f) => f.into_inner(),
+                Form::Ex(_x, f) => f.into_inner(),
+                Form::All2(_p, f) => f.into_inner(),
+                Form::Ex2(_p, f) => f.into_inner(),
+            };
+        }
+    }
+}
+
+/// Lets go of a left side. What is left is the right side.
+#[cycle(let_go)]
+fn let_go_of_left(left: Boxed<Form>, right: Boxed<Form>) -> Form
+    ensures { result ≡ right }
+{
+    left.into_inner().let_go();
+    right.into_inner()
 }
 
 /// The boxed form of `copy`.

@@ -70,14 +70,22 @@ Gives items (Ok m) x = state_of items m ≡ x
 Gives items (Err errors.Memory) x = Unit {0}
 Gives items (Err errors.Dead) x = x ≡ Dead
 
+-- a state inside a binder of a variable
+abbrev pub IsVariableBinder : Mode → Type 0
+IsVariableBinder (modes.Quantified q) = Unit {0}
+IsVariableBinder (modes.Named q x) = Unit {0}
+IsVariableBinder (modes.Sorting q x) = Unit {0}
+IsVariableBinder (modes.Sorted q x s) = Unit {0}
+IsVariableBinder _ = ⊥
+
 -- a state inside a binder of a predicate
-abbrev pub IsBinder2 : Mode → Type 0
-IsBinder2 modes.Want = ⊥
-IsBinder2 (modes.Have s) = ⊥
-IsBinder2 (modes.Quantified q) = ⊥
-IsBinder2 (modes.Named q x) = ⊥
-IsBinder2 (modes.Sorting q x) = ⊥
-IsBinder2 (modes.Sorted q x s) = ⊥
-IsBinder2 (modes.WantTerm side calls) = ⊥
-IsBinder2 (modes.HaveTerm side calls t) = ⊥
-IsBinder2 _ = Unit {0}
+abbrev pub IsPredicateBinder : Mode → Type 0
+IsPredicateBinder modes.Want = ⊥
+IsPredicateBinder (modes.Have s) = ⊥
+IsPredicateBinder (modes.Quantified q) = ⊥
+IsPredicateBinder (modes.Named q x) = ⊥
+IsPredicateBinder (modes.Sorting q x) = ⊥
+IsPredicateBinder (modes.Sorted q x s) = ⊥
+IsPredicateBinder (modes.WantTerm side calls) = ⊥
+IsPredicateBinder (modes.HaveTerm side calls t) = ⊥
+IsPredicateBinder _ = Unit {0}

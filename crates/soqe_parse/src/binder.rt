@@ -1,7 +1,7 @@
-//! Binders: what they leave on the stack, and those of predicates, `all2 P(s, t).`, piece by piece.
+//! Binders, piece by piece, `all x:s.` and `all2 P(s, t).`, and what they leave on the stack.
 ghost use Rattle.std.specs.Prelude.{◌≡◌, ◌∷◌};
 ghost use Rattle.soqe_parse.specs.Machine.{InBind, InBind2, Want, step};
-ghost use Rattle.soqe_parse.specs.Stack.{IsBinder2, stack_of, state_of, Gives};
+ghost use Rattle.soqe_parse.specs.Stack.{IsPredicateBinder, IsVariableBinder, stack_of, state_of, Gives};
 
 use crate::frame::{Frame, Mode, StepError};
 use crate::operand::pushed;
@@ -9,7 +9,7 @@ use soqe_syntax::{Piece, PredicateBinder, Quantifier, Span, Spans, VariableBinde
 use std::alloc::Global;
 
 /// Behind a binder of a variable.
-pub(crate) fn variable_bound(
+fn variable_bound(
     alloc: Global,
     stack: &mut Vec<Frame>,
     quantifier: Quantifier,
@@ -50,14 +50,46 @@ fn predicate_bound(
     }
 }
 
-/// A step inside a binder of a predicate.
-pub(crate) fn binder_stepped(
+/// A step inside a binder of a variable.
+pub(crate) fn variable_binder_stepped(
     alloc: Global,
     stack: &mut Vec<Frame>,
     mode: Mode,
     next: Piece,
 ) -> Result<Mode, StepError>
-    requires { IsBinder2 mode }
+    requires { IsVariableBinder mode }
+    ensures { Gives stack.new.items result (step (state_of stack.old.items mode) next) }
+{
+    match mode {
+        Mode::Quantified(quantifier) => match next {
+            Piece::Name(name) => Ok(Mode::Named(quantifier, name)),
+            _ => Err(StepError::Dead),
+        },
+        Mode::Named(quantifier, name) => match next {
+            Piece::Dot => variable_bound(alloc, stack, quantifier, name, None),
+            Piece::Colon => Ok(Mode::Sorting(quantifier, name)),
+            _ => Err(StepError::Dead),
+        },
+        Mode::Sorting(quantifier, name) => match next {
+            Piece::Name(sort) => Ok(Mode::Sorted(quantifier, name, sort)),
+            _ => Err(StepError::Dead),
+        },
+        Mode::Sorted(quantifier, name, sort) => match next {
+            Piece::Dot => variable_bound(alloc, stack, quantifier, name, Some(sort)),
+            _ => Err(StepError::Dead),
+        },
+        _ => Err(StepError::Dead),
+    }
+}
+
+/// A step inside a binder of a predicate.
+pub(crate) fn predicate_binder_stepped(
+    alloc: Global,
+    stack: &mut Vec<Frame>,
+    mode: Mode,
+    next: Piece,
+) -> Result<Mode, StepError>
+    requires { IsPredicateBinder mode }
     ensures { Gives stack.new.items result (step (state_of stack.old.items mode) next) }
 {
     match mode {

@@ -3,7 +3,7 @@ ghost use Rattle.std.specs.Prelude.{◌≡◌};
 ghost use Rattle.soqe_parse.specs.Machine.{Want, step};
 ghost use Rattle.soqe_parse.specs.Stack.{stack_of, state_of, Gives};
 
-use crate::binder::{binder_stepped, variable_bound};
+use crate::binder::{predicate_binder_stepped, variable_binder_stepped};
 use crate::frame::{Frame, Mode, StepError};
 use crate::operand::{operated, pushed, shut};
 use crate::term::{closed, comma_read, equated, opened, signed};
@@ -27,23 +27,6 @@ pub(crate) fn stepped(
             Piece::Close => shut(alloc, stack, shape),
             _ => Err(StepError::Dead),
         },
-        Mode::Quantified(quantifier) => match next {
-            Piece::Name(name) => Ok(Mode::Named(quantifier, name)),
-            _ => Err(StepError::Dead),
-        },
-        Mode::Named(quantifier, name) => match next {
-            Piece::Dot => variable_bound(alloc, stack, quantifier, name, None),
-            Piece::Colon => Ok(Mode::Sorting(quantifier, name)),
-            _ => Err(StepError::Dead),
-        },
-        Mode::Sorting(quantifier, name) => match next {
-            Piece::Name(sort) => Ok(Mode::Sorted(quantifier, name, sort)),
-            _ => Err(StepError::Dead),
-        },
-        Mode::Sorted(quantifier, name, sort) => match next {
-            Piece::Dot => variable_bound(alloc, stack, quantifier, name, Some(sort)),
-            _ => Err(StepError::Dead),
-        },
         Mode::WantTerm(side, calls) => match next {
             Piece::Name(name) => Ok(Mode::HaveTerm(side, calls, Expr::Plain(name))),
             _ => Err(StepError::Dead),
@@ -56,7 +39,10 @@ pub(crate) fn stepped(
             Piece::Sign(op) => signed(alloc, stack, side, calls, term, op),
             _ => Err(StepError::Dead),
         },
-        _ => binder_stepped(alloc, stack, mode, next),
+        Mode::Quantified(_) | Mode::Named(_, _) | Mode::Sorting(_, _) | Mode::Sorted(_, _, _) => {
+            variable_binder_stepped(alloc, stack, mode, next)
+        }
+        _ => predicate_binder_stepped(alloc, stack, mode, next),
     }
 }
 

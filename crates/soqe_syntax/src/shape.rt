@@ -47,7 +47,6 @@ pub struct PredicateBinder {
 }
 
 /// A formula as it is written. What is large lies in a box, so that a negation or a parenthesis takes little memory.
-#[derive(Drop)]
 pub enum Shape {
     Constant(bool),
     Atom(Box<Expr>),
@@ -57,6 +56,25 @@ pub enum Shape {
     Bind2(Box<PredicateBinder>, Box<Shape>),
     Binary(Operator, Box<Shape>, Box<Shape>),
     Paren(Box<Shape>),
+}
+
+/// The end of a tree. A loop goes through negations, parentheses, bodies and right sides, so that it takes a frame of the call
+/// stack for each left side within a left side, where a derived one takes one for each node on a path.
+impl Drop for Shape {
+    fn drop(mut self) {
+        loop {
+            match self {
+                Shape::Constant(_value) => return,
+                Shape::Atom(_atom) => return,
+                Shape::Equation(_sides) => return,
+                Shape::Not(body) => self = Box::into_inner(body),
+                Shape::Bind(_binder, body) => self = Box::into_inner(body),
+                Shape::Bind2(_binder, body) => self = Box::into_inner(body),
+                Shape::Binary(_op, _left, right) => self = Box::into_inner(right),
+                Shape::Paren(body) => self = Box::into_inner(body),
+            }
+        }
+    }
 }
 
 /// A declaration as it is written.

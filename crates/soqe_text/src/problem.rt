@@ -26,4 +26,11 @@ impl Problem {
             }
         }
     }
+
+    /// Lets go of the problem, and of its goal by a loop: a deep goal takes no deep call stack, but for left sides that nest.
+    pub fn let_go(self) {
+        match self {
+            Problem::Elim { sig: _sig, goal } => goal.let_go(),
+        }
+    }
 }
