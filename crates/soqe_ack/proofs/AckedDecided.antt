@@ -25,7 +25,7 @@ use Rattle.soqe_ack.specs.Guards.{IsGuard}
 use Rattle.soqe_ack.proofs.GuardOf.{unique, decided}
 use Rattle.soqe_ack.proofs.GuardSigns.{any_parameters}
 use Rattle.soqe_ack.proofs.ParameterNumbers.{one-parameters}
-use Rattle.soqe_ack.proofs.PredSubs.{is_pred_sub, pred_sub-unique}
+use Rattle.soqe_psub.proofs.PredSubs.{is_pred_sub, pred_sub-unique}
 
 -- ---- parameters
 

@@ -17,7 +17,7 @@ use Rattle.soqe_ack.specs.Acked.{AreConditions, no_more, no_guard, guard, AreCle
 use Rattle.soqe_ack.specs.Divides.{IsRole, is_in_way, next_condition, next_share, Takes, AreShares, nothing, lacks, waits, guards, IsDivided, share_form}
 use Rattle.soqe_ack.specs.Guards.{IsGuard}
 use Rattle.soqe_ack.proofs.GuardSigns.{no_sign, any_parameters}
-use Rattle.soqe_ack.proofs.PredSubs.{is_pred_sub, pred_sub-lacks}
+use Rattle.soqe_psub.proofs.PredSubs.{is_pred_sub, pred_sub-lacks}
 
 module _ (s : Bool) (q : Pred) (xs : List Var) where
   -- ---- one more conjunct at the end

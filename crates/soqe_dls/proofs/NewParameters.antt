@@ -10,30 +10,18 @@ use Rattle.soqe_term.proofs.Choices.{bool_cases}
 use Rattle.soqe_term.proofs.Worlds.{eqb-self}
 use Rattle.soqe_form.specs.declared.form.Form.{Form}
 use Rattle.soqe_form.specs.Free.{free}
-use Rattle.soqe_form.specs.FreeVars.{free_vars, is_among}
+use Rattle.soqe_form.specs.FreeVars.{is_among}
 use Rattle.soqe_form.specs.Marks.{marked, Adds}
-use Rattle.soqe_form.proofs.FreeVariables.{is_among-free_vars}
+use Rattle.soqe_psub.specs.Replaces.{is_own}
 use Rattle.soqe_ack.specs.Acked.{AreParameters}
 use Rattle.soqe_ack.specs.GuardLaws.{AreDistinct}
 use Rattle.soqe_ack.specs.Tries.{by_vars}
 
 -- ---- which numbers are used
 
-kept_or_own : (m p f : Bool) → (m || cond p false (cond f true false)) ≡ (m || (f && not p))
-kept_or_own true p f = refl
-kept_or_own false true true = refl
-kept_or_own false true false = refl
-kept_or_own false false true = refl
-kept_or_own false false false = refl
-
-pub used-marks : (keep : List ℕ) (xs : List Var) (f : Form) (a b c d : List (ℕ × Bool)) → marked a ≡ (λ n. false)
-    → marked b ≡ (λ n. cond (is_among (free_vars f) n) true (marked a n)) → marked c ≡ (λ n. cond (is_among xs n) false (marked b n))
-    → Adds (λ n. member n keep) c d → marked d ≡ (λ n. member n keep || (free n f && not (is_among xs n)))
-used-marks keep xs f a b c d none own params kept =
-    kept.is ∙ (λ i n. member n keep || params i n) ∙ (λ i n. member n keep || cond (is_among xs n) false (own i n))
-    ∙ (λ i n. member n keep || cond (is_among xs n) false (cond (is_among (free_vars f) n) true (none i n)))
-    ∙ (λ i n. member n keep || cond (is_among xs n) false (cond (is_among-free_vars f n i) true false))
-    ∙ (λ i n. kept_or_own (member n keep) (is_among xs n) (free n f) i)
+pub used-marks : (keep : List ℕ) (xs : List Var) (f : Form) (a b : List (ℕ × Bool)) → marked a ≡ is_own xs f
+    → Adds (λ n. member n keep) a b → marked b ≡ (λ n. member n keep || (free n f && not (is_among xs n)))
+used-marks keep xs f a b own kept = kept.is ∙ (λ i n. member n keep || own i n)
 
 -- ---- new parameters
 

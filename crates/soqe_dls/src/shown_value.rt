@@ -1,6 +1,6 @@
 //! A predicate's value as it is shown: with small numbers for its parameters.
 
-ghost use Rattle.std.specs.Prelude.{◌≡◌, ◌||◌, ◌&&◌, not, map, cond, length, IfOk, OnOk};
+ghost use Rattle.std.specs.Prelude.{◌≡◌, ◌||◌, ◌&&◌, not, map, length, IfOk, OnOk};
 ghost use Rattle.soqe_term.specs.Unused.{member};
 ghost use Rattle.soqe_form.specs.Free.{free};
 ghost use Rattle.soqe_form.specs.FreeVars.{is_among};
@@ -9,7 +9,8 @@ ghost use Rattle.soqe_ack.specs.Acked.{AreParameters};
 ghost use Rattle.soqe_ack.specs.GuardLaws.{AreDistinct};
 ghost use Rattle.soqe_ack.specs.Tries.{IsShown, by_vars};
 
-use soqe_form::{Form, Marks, free_vars, subst_all, tidy};
+use soqe_form::{Form, Marks, subst_all, tidy};
+use soqe_psub::mark_own;
 use soqe_term::{Binding, Mem, Nums, Term, Var, Vars};
 use sqlite_items::Boxed;
 use std::alloc::Global;
@@ -43,22 +44,9 @@ pub(crate) fn shown(alloc: Global, params: &Vars, value: &Form, keep: &Nums) -> 
 fn used_numbers(alloc: Global, params: &Vars, value: &Form, keep: &Nums) -> Mem<Marks>
     ensures { IfOk result (λ m. marked m ≡ (λ n. member n keep.now || (free n value.now && not (is_among params.now n)))) }
 {
-    let free = free_vars(alloc, value)?;
-    let mut used = Marks::new(alloc);
-    mark_each(free.as_slice(), true, &mut used)?;
-    mark_each(params.as_slice(), false, &mut used)?;
+    let mut used = mark_own(alloc, params, value)?;
     mark_kept(keep.as_slice(), &mut used)?;
     Ok(used)
-}
-
-/// Sets or takes away the mark of each variable.
-fn mark_each(vars: &[Var], mark: bool, marks: &mut Marks) -> Mem<()>
-    ensures { OnOk result (marked marks.new ≡ (λ n. cond (is_among vars.now n) mark (marked marks.old n))) }
-{
-    for x in vars {
-        marks.set(x.num, mark)?;
-    }
-    Ok(())
 }
 
 /// Marks the numbers to keep out.

@@ -1,7 +1,0 @@
-use Rattle.std.proofs.Common.{◌≡◌, cond, take}
-use Rattle.soqe_form.specs.FreeVars.{is_among}
-use Rattle.soqe_form.specs.Marks.{marked}
-use Rattle.soqe_dls.proofs.shown_value.mark_each.Given as goal
-
-abbrev pub invariant-loop-x : goal.invariant-loop-x
-invariant-loop-x l = marked l.marks ≡ (λ n. cond (is_among (take l.x-index l.vars) n) l.mark (marked l.initial.marks n))
