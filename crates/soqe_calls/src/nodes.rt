@@ -25,28 +25,23 @@ fn nodes(form: &Form) -> Option<u64>
     counted(form, 0)
 }
 
-/// The nodes of the formula and those that were counted before.
+/// The nodes of the formula and those that were counted before. A loop goes through negations, bodies and right sides, so the
+/// recursion is as deep as left sides stand within one another.
 fn counted(form: &Form, before: u64) -> Option<u64>
     ensures { MatchOption result (2 ^ 64 ≤ before + nodes_of form.now) (λ n. n ≡ before + nodes_of form.now) }
 {
-    match form {
-        Form::True | Form::False | Form::Equal(_, _) | Form::Atom(_, _) => before.checked_add(1),
-        Form::Not(f) => {
-            let count = counted(f.get(), before)?;
-            count.checked_add(1)
-        }
-        Form::All(_, f) | Form::Ex(_, f) => {
-            let count = counted(f.get(), before)?;
-            count.checked_add(1)
-        }
-        Form::All2(_, f) | Form::Ex2(_, f) => {
-            let count = counted(f.get(), before)?;
-            count.checked_add(1)
-        }
-        Form::And(f, g) | Form::Or(f, g) | Form::Imp(f, g) | Form::Iff(f, g) => {
-            let count = counted(f.get(), before)?;
-            let count = counted(g.get(), count)?;
-            count.checked_add(1)
+    let mut count = before;
+    let mut rest = form;
+    loop {
+        count = count.checked_add(1)?;
+        match rest {
+            Form::True | Form::False | Form::Equal(_, _) | Form::Atom(_, _) => return Some(count),
+            Form::Not(f) | Form::All(_, f) | Form::Ex(_, f) => rest = f.get(),
+            Form::All2(_, f) | Form::Ex2(_, f) => rest = f.get(),
+            Form::And(f, g) | Form::Or(f, g) | Form::Imp(f, g) | Form::Iff(f, g) => {
+                count = counted(f.get(), count)?;
+                rest = g.get();
+            }
         }
     }
 }
