@@ -139,10 +139,14 @@ fn sign(shape: &Shape) -> &'static str {
 }
 
 /// The sides of a formula with an operator.
-fn sides(shape: Shape) -> Result<(Box<Shape>, Box<Shape>), Fail> {
+fn sides(shape: &Shape) -> Result<(&Shape, &Shape), Fail> {
     match shape {
-        Shape::Binary(_op, left, right) => Ok((left, right)),
-        _other => Err(Fail::from("no operator")),
+        Shape::Binary(_, left, right) => {
+            let left: &Shape = left;
+            let right: &Shape = right;
+            Ok((left, right))
+        }
+        _ => Err(Fail::from("no operator")),
     }
 }
 
@@ -165,9 +169,9 @@ fn groups(rt: HostRuntime) -> Result<(), Fail> {
     for (text, middle, first, second) in cases {
         let goal = goal_of(rt.alloc(), text)?;
         assert_eq!(rt; sign(&goal), middle);
-        let (left, right) = sides(goal)?;
-        assert_eq!(rt; sign(&left), first);
-        assert_eq!(rt; sign(&right), second);
+        let (left, right) = sides(&goal)?;
+        assert_eq!(rt; sign(left), first);
+        assert_eq!(rt; sign(right), second);
     }
     Ok(())
 }
