@@ -1,5 +1,5 @@
 -- Formulas that are the same below pairs of binders are the same with these binders in front: so the laws of `same`, that it is
--- symmetric and transitive, hold below pairs. (General: the place of this file is soqe_form.)
+-- symmetric and transitive, hold below pairs.
 use Rattle.std.proofs.Common.{◌≡◌, ℕ, true, map, List, [], ◌∷◌, refl, sym, ◌∙◌, ap}
 use Rattle.soqe_term.proofs.Worlds.{eqb-self}
 use Rattle.soqe_form.specs.declared.form.Form.{Form, All, All2}

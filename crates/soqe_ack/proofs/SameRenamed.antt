@@ -1,5 +1,5 @@
 -- A variable put in place of another one that stands nowhere in the formula gives the same formula, where the two are a pair.
--- (General: the place of this file is soqe_form.)
+--
 use Rattle.std.proofs.Common.{◌≡◌, ℕ, Bool, true, false, cond, eqb, ◌||◌, ◌&&◌, List, [], ◌∷◌, Option, Some, None, refl, sym, ◌∙◌, ap}
 use Rattle.std.proofs.lemmas.Bool.{eqb-true, or_left, or_right, and_from}
 use Rattle.soqe_term.specs.declared.bindings.Bound.{Bound as Pair}

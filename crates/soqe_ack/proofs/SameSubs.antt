@@ -1,5 +1,5 @@
 -- Free variables replaced by variables give the same formula, where each of them is a pair with what takes its place.
--- (General: the place of this file is soqe_form.)
+--
 --
 -- The sorts of variables with which the formula is well sorted are v: a variable that bears another sort than its own is not
 -- the same as what takes its place. A binder that catches nothing makes a pair with itself, and no other term has its variable.

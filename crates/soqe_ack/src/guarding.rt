@@ -65,7 +65,8 @@ pub fn guard(alloc: Global, form: &Form, pred: &Pred, sign: Sign, params: &Vars)
     }
 }
 
-/// What the formula is to the predicate at the sign. No part is looked at twice, and what lacks the predicate is copied once.
+/// What the formula is to the predicate at the sign. No part is searched twice. What lacks the predicate is copied once, and once
+/// more in the normal form of its negation where it is a side of a disjunction.
 pub(crate) fn find(alloc: Global, form: &Form, pred: &Pred, sign: Sign, params: &Vars) -> Mem<Found>
     ensures { IfOk result (λ r. r ≡ found_in (is_pos sign) pred.now params.now form.now) }
 {

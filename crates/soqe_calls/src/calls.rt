@@ -113,7 +113,7 @@ fn tidied(alloc: Global, form: &Boxed<Form>) -> Mem<u64>
     count(&made)
 }
 
-/// The first function of a variable takes the place of the variable 3.
+/// The nodes of the formula with the first function of the variable `num` in place of the variable 3.
 fn substituted(alloc: Global, form: &Boxed<Form>, num: u64) -> Mem<u64>
     ensures { IfOk result (λ n. n ≡ nodes_of (with_image num form.now)) }
 {

@@ -10,17 +10,23 @@ pub enum Call {
     Nothing,
     /// Its nodes are counted.
     Nodes,
+    /// Its free variables are listed.
     FreeVars,
+    /// It is copied.
     Copy,
-    /// The formula with its copy.
+    /// It is compared with its copy.
     Same,
+    /// It is made tidy.
     Tidy,
     /// A term for the free variable of all parts, which no binder catches.
     Subst,
     /// A term in its place that binders of the formula would catch, so they are renamed.
     SubstRenaming,
+    /// Its bound variables are made distinct.
     Apart,
+    /// Its normal form is made.
     Nnf,
+    /// It is made simple.
     Simplify,
 }
 
@@ -82,6 +88,7 @@ pub fn read_plan(words: &[String]) -> Option<Plan>
     }
 }
 
+/// The plan of the names of a call and a shape, and of a size.
 fn plan_of(call: &str, shape: &str, size: u32) -> Option<Plan>
     ensures { result ≡ plan_named call.now shape.now size }
 {
@@ -92,6 +99,7 @@ fn plan_of(call: &str, shape: &str, size: u32) -> Option<Plan>
     }
 }
 
+/// The plan of the name of a call on a list.
 fn read_list(call: &str, size: u32) -> Option<Plan>
     ensures { result ≡ list_plan call.now size }
 {
@@ -104,6 +112,7 @@ fn read_list(call: &str, size: u32) -> Option<Plan>
     }
 }
 
+/// The plan of the name of a call on a shape.
 fn read_on_shape(call: &str, shape: &str, size: u32) -> Option<Plan>
     ensures { result ≡ shape_plan call.now (shape_named shape.now) size }
 {
@@ -113,6 +122,7 @@ fn read_on_shape(call: &str, shape: &str, size: u32) -> Option<Plan>
     }
 }
 
+/// The plan of a call on a formula, or else another one.
 fn read_on_formula(call: &str, shape: Shape, size: u32) -> Option<Plan>
     ensures { result ≡ formula_plan (call_named call.now) (other_plan call.now shape size) shape size }
 {
@@ -122,6 +132,7 @@ fn read_on_formula(call: &str, shape: Shape, size: u32) -> Option<Plan>
     }
 }
 
+/// The plan of the name of a call that gives cases, or on a problem or its text.
 fn read_other(call: &str, shape: Shape, size: u32) -> Option<Plan>
     ensures { result ≡ other_plan call.now shape size }
 {
@@ -138,6 +149,7 @@ fn read_other(call: &str, shape: Shape, size: u32) -> Option<Plan>
     }
 }
 
+/// The call of this name.
 fn read_call(name: &str) -> Option<Call>
     ensures { result ≡ call_named name.now }
 {
@@ -147,6 +159,7 @@ fn read_call(name: &str) -> Option<Call>
     }
 }
 
+/// The shape of this name.
 fn read_shape(name: &str) -> Option<Shape>
     ensures { result ≡ shape_named name.now }
 {
@@ -167,6 +180,7 @@ fn read_shape(name: &str) -> Option<Shape>
     }
 }
 
+/// The call of this name, of those that make no new formula.
 fn read_asking(name: &str) -> Option<Call>
     ensures { result ≡ asking_named name.now }
 {
@@ -183,6 +197,7 @@ fn read_asking(name: &str) -> Option<Call>
     }
 }
 
+/// The call of this name, of those that make a new formula.
 fn read_making(name: &str) -> Option<Call>
     ensures { result ≡ making_named name.now }
 {

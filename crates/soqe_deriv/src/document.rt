@@ -24,7 +24,7 @@ pub enum Stop {
     /// The block's predicate occurs with both signs: the first atom with a positive occurrence and the first with a
     /// negative one, counted from 1.
     Mixed { pos: u64, neg: u64 },
-    /// No sign reaches the case with this number: some conjunct has the sign and is no guard of it.
+    /// No try reaches the case with this number: for each sign, some conjunct has the sign and is no guard of it.
     NotReached(u64),
 }
 
@@ -77,12 +77,14 @@ impl Lines {
         }
     }
 
+    /// The lines as a slice. It takes no memory.
     pub fn as_slice(&self) -> &[Line]
         ensures { result.now ≡ self.now }
     {
         self.items.as_slice()
     }
 
+    /// Adds a line at the end. After want of memory nothing has changed.
     pub fn push(&mut self, line: Line) -> Mem<()>
         ensures ok { OnOk result (self.new ≡ self.old ++ line ∷ []) }
         ensures err { OnErr result (self.new ≡ self.old) }

@@ -14,7 +14,7 @@ use soqe_term::{Mem, Signature};
 use soqe_text::Problem;
 use std::alloc::Global;
 
-/// The text of a document, each line with its line feed.
+/// The text of a document, each line with its line feed. It recurses as deep as the deepest formula.
 pub fn write_document(alloc: Global, document: &Document) -> Mem<Vec<u8>>
     ensures { IfOk result (λ text. text.items ≡ document_text document.now) }
 {

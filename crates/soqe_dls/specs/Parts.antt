@@ -1,4 +1,4 @@
--- The parts of a run while it is written: the formula of a case, what is joined so far, the steps of one case.
+-- The parts of a run while it is written: what a formula is made of that is a case's, and the steps of one case.
 use Rattle.std.specs.Prelude.{ℕ, ◌≡◌, Bool, true, false, List, [], ◌∷◌, ◌++◌, Option, Some, None, length}
 use Rattle.soqe_term.specs.declared.term.Var.{Var}
 use Rattle.soqe_form.specs.declared.form.Pred.TheVariants.{Bound}

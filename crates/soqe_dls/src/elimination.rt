@@ -30,7 +30,7 @@ pub enum DlsEnd {
 /// negative. Binders get no number of `keep`, and neither do parameters.
 ///
 /// Each case costs what its size does, but the number of cases can be exponential in the size of the form. It recurses as deep as
-/// the formula of a case or its value.
+/// the form, the formula of a case or its value.
 pub fn dls(alloc: Global, form: &Form, pred: &PVar, keep: &Nums) -> Mem<DlsEnd>
     ensures exact { IfOk result (λ end. IsAnswer keep.now pred.now form.now end) }
     ensures truth { IfOk result (λ end. EndsTrue pred.now form.now end) }

@@ -35,6 +35,7 @@ impl DlsSteps {
         }
     }
 
+    /// The steps as a slice. It takes no memory.
     pub fn as_slice(&self) -> &[DlsStep]
         ensures { result.now ≡ self.now }
     {

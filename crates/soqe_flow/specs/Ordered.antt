@@ -53,7 +53,7 @@ sign_lines keep b v = line.Block method.Sign (Bound b.pred.num) ∷ line.Replace
 abbrev pub after_sign : List ℕ → Form → Block → Bool → Form
 after_sign keep f b v = after_block keep f b (closed keep b v)
 
--- the normal form of a block's body, of its negation where all tables are tried, tidy
+-- the normal form of a block's body, or of its negation where its quantifier is universal, tidy
 abbrev pub normal : List ℕ → Block → Form
 normal keep b = tidy keep (nnf (not b.exists) b.body)
 

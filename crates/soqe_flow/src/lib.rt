@@ -6,7 +6,7 @@
 //! - `derivation`: from a problem and a method to the document
 //! - `blocks`: the loop over the blocks of what stands
 //! - `sign_blocks`, `cases_blocks`: the lines of one block by each method
-//! - `closing`: a block's formula in the place of the block
+//! - `closing`: the lines that open and close a block
 //! - `simplifying`: simplified formulas, and the numbers that their binders keep free
 #![tactic(auto)]
 

@@ -25,10 +25,11 @@ valued m v (Ex' x _ (one f end)) = Ex x (valued m v f)
 valued m v (All2' p _ (one f end)) = All2 p (cond (eqb m p.num) f (valued m v f))
 valued m v (Ex2' p _ (one f end)) = Ex2 p (cond (eqb m p.num) f (valued m v f))
 
--- some atom of the predicate has a positive occurrence, and some a negative one
+-- some atom of the predicate has a positive occurrence
 abbrev pub occurs_pos : Pred → Form → Bool
 occurs_pos p f = list_any (λ s. s.pos) (signs_of p f)
 
+-- some has a negative one
 abbrev pub occurs_neg : Pred → Form → Bool
 occurs_neg p f = list_any (λ s. s.neg) (signs_of p f)
 
@@ -49,9 +50,10 @@ abbrev pub from_one : Option ℕ → Option ℕ
 from_one None = None
 from_one (Some n) = Some (suc n)
 
--- the first atom of the predicate with a positive occurrence, and the first with a negative one, counted from 1
+-- the first atom of the predicate with a positive occurrence, counted from 1
 abbrev pub first_pos : Pred → Form → Option ℕ
 first_pos p f = from_one (position (λ s. s.pos) (signs_of p f))
 
+-- the first with a negative one, counted from 1
 abbrev pub first_neg : Pred → Form → Option ℕ
 first_neg p f = from_one (position (λ s. s.neg) (signs_of p f))

@@ -67,6 +67,7 @@ impl CaseList {
         self.items.len()
     }
 
+    /// The cases as a slice. It takes no memory.
     pub fn as_slice(&self) -> &[Case]
         ensures { result.now ≡ self.now }
     {

@@ -17,7 +17,7 @@ use sqlite_items::Boxed;
 use std::alloc::Global;
 
 /// The cases of the formula for the predicate, once its bound variables are made distinct and none has a number of `keep`:
-/// some case holds exactly where the formula does. It walks over the formula from below, by recursion, and a formula is
+/// some case holds exactly where the formula does. It walks over the formula from below, recurses as deep as it, and a formula is
 /// moved into one of the cases that it stands in, and copied for each other one; the number of cases can be exponential in the
 /// size of the formula.
 pub fn cases(alloc: Global, form: &Form, pred: &Pred, keep: &Nums) -> Mem<CaseList>

@@ -15,7 +15,7 @@ use sqlite_items::Boxed;
 use std::alloc::Global;
 
 /// The negation normal form of the formula, or of its negation where `negated` is true. It takes time and memory in
-/// proportion to the answer; of an equivalence both sides are made twice.
+/// proportion to the answer; of an equivalence both sides are made twice. It goes down the formula by recursion.
 pub fn nnf(alloc: Global, form: &Form, negated: bool) -> Mem<Boxed<Form>>
     ensures exact { IfOk result (λ r. r ≡ normal negated form.now) }
 {

@@ -31,7 +31,7 @@ struct Passed {
     neg: Option<u64>,
 }
 
-/// The signs with which the predicate occurs free in the formula.
+/// The signs with which the predicate occurs free in the formula. It takes no memory, and goes down the formula by recursion.
 #[tactic(auto, using(crate::proofs::Scanned::some_pos, crate::proofs::Scanned::some_neg))]
 pub fn signs(form: &Form, pred: &Pred) -> SignPair
     ensures pos { result.pos ≡ occurs_pos pred.now form.now }
@@ -45,6 +45,7 @@ pub fn signs(form: &Form, pred: &Pred) -> SignPair
 }
 
 /// Where the predicate first occurs with each sign. A number past the greatest of its type is given as the greatest.
+/// It takes no memory, and goes down the formula by recursion.
 #[tactic(auto, using(crate::proofs::Scanned::finds_pos, crate::proofs::Scanned::finds_neg))]
 pub fn first_signs(form: &Form, pred: &Pred) -> FirstSigns
     ensures pos { result.pos ≡ capped (first_pos pred.now form.now) }

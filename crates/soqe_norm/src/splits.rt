@@ -30,7 +30,8 @@ pub enum Part {
     Splits(Boxed<Split>),
 }
 
-/// How the formula splits, or that the predicate is not free in it. It takes the formula apart and copies none of it.
+/// How the formula splits, or that the predicate is not free in it. It takes the formula apart and copies none of
+/// it, and recurses as deep as the formula.
 pub fn find_split(alloc: Global, form: Boxed<Form>, pred: &Pred) -> Mem<Part>
     ensures { IfOk result (λ r. seen r ≡ split_cases pred.now form) }
 {

@@ -57,7 +57,8 @@ fn hides(binder: &PVar, pred: u64) -> bool
     pred == binder.num
 }
 
-/// The formula with the truth value for each free atom of the bound predicate. It allocates each node anew.
+/// The formula with the truth value for each free atom of the bound predicate. It allocates each node anew, and goes down the
+/// formula by recursion.
 pub fn valued(alloc: Global, form: &Form, pred: u64, value: bool) -> Mem<Boxed<Form>>
     ensures exact { IfOk result (λ r. r ≡ with_value pred value form.now) }
 {

@@ -68,12 +68,14 @@ LeavesNoneWhereSorted q xs b f r = has_free q b ≡ false → (e : Sorting) → 
 abbrev pub AddsNoBlocks : Form → Form → Form → Type 0
 AddsNoBlocks b f r = has_blocks b ≡ false → has_blocks f ≡ false → has_blocks r ≡ false
 
--- the same of the definition
+-- no free atom of the predicate is left by the definition but with another number of arguments
 abbrev pub PredSubIsGone : Type 0
 PredSubIsGone = (k : ℕ) (q : Pred) (xs : List Var) (b f : Form) → depth f ≤ k → LeavesNone q xs b (pred_sub k q xs b f)
 
+-- none at all is left by it where the formula is well sorted
 abbrev pub PredSubIsGoneWhereSorted : Type 0
 PredSubIsGoneWhereSorted = (k : ℕ) (q : Pred) (xs : List Var) (b f : Form) → depth f ≤ k → LeavesNoneWhereSorted q xs b f (pred_sub k q xs b f)
 
+-- no quantifier of a predicate is new by it
 abbrev pub PredSubHasNoBlocks : Type 0
 PredSubHasNoBlocks = (k : ℕ) (q : Pred) (xs : List Var) (b f : Form) → depth f ≤ k → AddsNoBlocks b f (pred_sub k q xs b f)

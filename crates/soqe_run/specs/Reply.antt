@@ -1,3 +1,4 @@
+-- A reply with a fixed text, and the statuses that an engine answers.
 use Rattle.std.specs.Prelude.{◌≡◌, ℕ, Bool, true, false, List, [], ◌∷◌, ◌++◌}
 use Rattle.soqe_run.specs.declared.status.Status.{Status}
 use Rattle.soqe_run.specs.declared.status.Status.TheVariants.{Done, Syntax, Names, Sorts, NotReached, Mixed}

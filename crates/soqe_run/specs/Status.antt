@@ -1,3 +1,4 @@
+-- The number of each status.
 use Rattle.std.specs.Prelude.{ℕ}
 use Rattle.soqe_run.specs.declared.status.Status.{Status}
 use Rattle.soqe_run.specs.declared.status.Status.TheVariants.{Done, Usage, Syntax, Names, Sorts, TooLong, ReadFault, WriteFault, Memory, NotReached, Mixed}

@@ -1,3 +1,4 @@
+//! What the words ask for.
 ghost use Rattle.std.specs.Prelude.{◌≡◌, map, string_bytes};
 ghost use Rattle.soqe_run.specs.Plan.{method_named, the_plan};
 

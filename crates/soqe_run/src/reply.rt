@@ -1,3 +1,4 @@
+//! A status and the text that goes with it.
 ghost use Rattle.std.specs.Prelude.{IfOk, codes};
 ghost use Rattle.soqe_run.specs.Reply.{IsFixed, line};
 

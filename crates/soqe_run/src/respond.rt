@@ -1,3 +1,4 @@
+//! From the bytes of a problem text to a reply.
 ghost use Rattle.std.specs.Prelude.{◌≡◌, ◌<◌, ◌^◌, ◌++◌, ℕ, List, length, codes, IfOk, IsTrue};
 ghost use Rattle.std.specs.Fmt.{decimal};
 ghost use Rattle.soqe_text.specs.Spelled.{Spells};
@@ -28,7 +29,7 @@ pub(crate) fn respond(alloc: Global, wanted: Wanted, bytes: &[u8]) -> Mem<Reply>
     }
 }
 
-// The reply to a text that spells the problem: its derivation, with a result or with a stop.
+/// The reply to a text that spells the problem: its derivation, with a result or with a stop.
 fn derive(alloc: Global, wanted: Wanted, problem: Problem) -> Mem<Reply>
     requires { IsSorted problem }
     ensures responds { IfOk result (λ reply. (bytes : List ℕ) → Spells bytes problem
@@ -44,7 +45,7 @@ fn derive(alloc: Global, wanted: Wanted, problem: Problem) -> Mem<Reply>
     }
 }
 
-// The status of a stop.
+/// The status of a stop.
 fn stop_status(stop: Stop) -> Status
     ensures { result ≡ status_of stop }
 {
@@ -54,7 +55,7 @@ fn stop_status(stop: Stop) -> Status
     }
 }
 
-// The reply with the text of a document.
+/// The reply with the text of a document.
 fn written(alloc: Global, status: Status, document: Document) -> Mem<Reply>
     ensures { IfOk result (λ reply. IsFixed status (document_text document) reply.status reply.text.items) }
 {
@@ -66,7 +67,7 @@ fn written(alloc: Global, status: Status, document: Document) -> Mem<Reply>
     })
 }
 
-// The reply to a text that is refused, with the words in front of the offset.
+/// The reply to a text that is refused, with the words in front of the offset.
 fn refused_at(alloc: Global, status: Status, words: &str, at: u64) -> Mem<Reply>
     ensures { IfOk result (λ reply. IsFixed status (line (words.now ++ decimal at)) reply.status reply.text.items) }
 {

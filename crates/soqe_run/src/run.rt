@@ -1,3 +1,4 @@
+//! From words and source to a reply, and from the reply to the sink.
 ghost use Rattle.std.specs.Prelude.{◌≡◌, ◌≤◌, map, string_bytes, IfOk};
 ghost use Rattle.soqe_io.specs.Faults.{Rose};
 ghost use Rattle.soqe_stream.specs.Read.{IsReadWithin};
@@ -20,9 +21,9 @@ const MAX_BYTES: u64 = 1_048_576;
 
 /// Takes the words, the program's name first, and the source's bytes to a text on the sink and a status.
 ///
-/// It reads the source first, then builds the whole text, and then writes it in pieces of at most 4,096 bytes. From
-/// the first write on it takes no memory. The order of refusals is: words, read fault, too long, syntax, names, sorts,
-/// a stop of the method, write fault. Want of memory may come at any step before the first write.
+/// Where the words are taken it reads the source, then builds the whole text, and then writes it in pieces of at most
+/// 4,096 bytes. From the first write on it takes no memory. The order of refusals is: words, read fault, too long,
+/// syntax, names, sorts, a stop of the method, write fault. Want of memory may come at any step before the first write.
 pub fn run<S: Source, O: Sink>(alloc: Global, words: &[String], src: &mut S, out: &mut O) -> Status
     ensures headline { result ≡ Status.Done
         → IsSolved (S.left src.old) (S.left src.new) (O.taken out.old) (O.taken out.new) }
@@ -43,7 +44,7 @@ pub fn run<S: Source, O: Sink>(alloc: Global, words: &[String], src: &mut S, out
     }
 }
 
-// What is to be written, and with which status.
+/// What is to be written, and with which status.
 fn prepare<S: Source>(alloc: Global, words: &[String], src: &mut S) -> Mem<Reply>
     ensures due { IfOk result (λ reply. IsDue (map string_bytes words.now)
         (S.left src.old) (S.left src.new) (Rose (S.faults src.old) (S.faults src.new))
@@ -58,7 +59,7 @@ fn prepare<S: Source>(alloc: Global, words: &[String], src: &mut S) -> Mem<Reply
     }
 }
 
-// What is to be written for a plan, and with which status.
+/// What is to be written for a plan, and with which status.
 fn follow<S: Source>(alloc: Global, plan: Plan, src: &mut S) -> Mem<Reply>
     ensures { Works S.left S.faults plan src.old src.new result }
 {
@@ -77,7 +78,7 @@ fn elim<S: Source>(alloc: Global, wanted: Wanted, src: &mut S) -> Mem<Reply>
     }
 }
 
-// The reply to all the bytes of a problem text, or to one more than it may have.
+/// The reply to all the bytes of a problem text, or to one more than it may have.
 fn reply_to(alloc: Global, wanted: Wanted, bytes: &[u8]) -> Mem<Reply>
     ensures { IfOk result (λ reply. Replies (Plan.Elim wanted) bytes.now reply.status reply.text.items) }
 {
@@ -87,7 +88,7 @@ fn reply_to(alloc: Global, wanted: Wanted, bytes: &[u8]) -> Mem<Reply>
     Ok(respond(alloc, wanted, bytes)?)
 }
 
-// Writes the text, and answers its status or the fault of the sink. It takes no memory.
+/// Writes the text, and answers its status or the fault of the sink. It takes no memory.
 fn deliver<O: Sink>(reply: &Reply, out: &mut O) -> Status
     ensures ways { IsDelivered reply.now.status reply.now.text.items
         (O.taken out.old) (O.taken out.new) (Rose (O.faults out.old) (O.faults out.new)) result }

@@ -1,3 +1,4 @@
+//! How a run ends, and the number of each status.
 ghost use Rattle.std.specs.Prelude.{◌≡◌};
 ghost use Rattle.soqe_run.specs.Status.{number_of};
 
@@ -22,9 +23,9 @@ pub enum Status {
     WriteFault,
     /// Memory was wanting, and nothing is written.
     Memory,
-    /// No try reaches a case of a block. The document ends with the number of the case.
+    /// No try reaches a case of a block. The document's last line but one has the number of the case.
     NotReached,
-    /// The predicate of a block occurs with both signs. The document ends with the two places.
+    /// The predicate of a block occurs with both signs. The document's last line but one has the two places.
     Mixed,
 }
 

@@ -24,17 +24,20 @@ abbrev pub name_or : Option Text → Text → ℕ → Text
 name_or (Some name) tag n = name
 name_or None tag n = tag ++ decimal n
 
--- names by numbers; a number that no name has is written with its tag
+-- a sort by its number
 abbrev pub sort_name : List Declaration → ℕ → Text
 sort_name ds n = name_or (name_of ds numbering.Sort n) [] n
 
+-- a variable by its number, with the tag _ where no name has it
 abbrev pub var_name : List Declaration → ℕ → Text
 var_name ds n = name_or (name_of ds numbering.Variable n) (codes "_") n
 
+-- a function by its number, with the tag _f for a Skolem function
 abbrev pub sym_name : List Declaration → Sym → Text
 sym_name ds (Fun n) = name_or (name_of ds numbering.Fun n) [] n
 sym_name ds (Skolem n) = codes "_f" ++ decimal n
 
+-- a predicate by its number, with the tag _p for a bound one without a name
 abbrev pub pred_name : List Declaration → Pred → Text
 pred_name ds (Decl n) = name_or (name_of ds numbering.Pred n) [] n
 pred_name ds (Bound n) = name_or (name_of ds numbering.BoundPred n) (codes "_p") n
@@ -50,10 +53,12 @@ onto None t = Some (tree.One t)
 onto (Some ts) t = Some (tree.More ts t)
 
 abbrev mutual
+  -- the tree of a term
   pub dress_term : List Declaration → Term → tree.Term Text
   dress_term ds (var x) = tree.Plain (var_name ds x.num)
   dress_term ds (App f s ts) = applied (sym_name ds f) (dress_terms_onto ds None ts)
 
+  -- the trees of terms, behind those that stand already
   pub dress_terms_onto : List Declaration → Option (tree.Terms Text) → Terms → Option (tree.Terms Text)
   dress_terms_onto ds before Nil = before
   dress_terms_onto ds before (Cons' _ (one-t t end-t) _ (ones-t ts ends-t)) = dress_terms_onto ds (onto before (dress_term ds t)) ts

@@ -24,6 +24,7 @@ abbrev mutual
   placed_term at (Plain x) = Plain (place at x)
   placed_term at (Applied x ts) = Applied (place at x) (placed_terms (behind at (x ++ codes "(")) ts)
 
+  -- printed terms, in the same way
   pub placed_terms : ℕ → Terms Text → Terms Span
   placed_terms at (One t) = One (placed_term at t)
   placed_terms at (More ts t) = More (placed_terms at ts) (placed_term (behind at (terms_text ts ++ codes ", ")) t)
@@ -93,6 +94,7 @@ abbrev mutual
   AreWords_term (Plain x) = IsWord x
   AreWords_term (Applied x ts) = IsWord x × AreWords_terms ts
 
+  -- the same for terms
   pub AreWords_terms : Terms Text → Type 0
   AreWords_terms (One t) = AreWords_term t
   AreWords_terms (More ts t) = AreWords_terms ts × AreWords_term t
@@ -142,6 +144,7 @@ abbrev mutual
   texts_term bytes (Plain x) = Plain (text_at bytes x)
   texts_term bytes (Applied x ts) = Applied (text_at bytes x) (texts_terms bytes ts)
 
+  -- terms, with the text at each place
   pub texts_terms : List ℕ → Terms Span → Terms Text
   texts_terms bytes (One t) = One (texts_term bytes t)
   texts_terms bytes (More ts t) = More (texts_terms bytes ts) (texts_term bytes t)

@@ -16,19 +16,22 @@ abbrev mutual
   term_text (Plain x) = x
   term_text (Applied x ts) = x ++ codes "(" ++ terms_text ts ++ codes ")"
 
+  -- terms, with a comma between two
   pub terms_text : Terms Text → Text
   terms_text (One t) = term_text t
   terms_text (More ts t) = terms_text ts ++ codes ", " ++ term_text t
 
+-- a truth value
 abbrev pub constant_text : Bool → Text
 constant_text true = codes "true"
 constant_text false = codes "false"
 
--- the word of a quantifier of variables, and of one of predicates
+-- the word of a quantifier of variables
 abbrev pub quantifier_text : Quantifier → Text
 quantifier_text quantifier.All = codes "all "
 quantifier_text quantifier.Ex = codes "ex "
 
+-- the word of a quantifier of predicates
 abbrev pub quantifier2_text : Quantifier → Text
 quantifier2_text quantifier.All = codes "all2 "
 quantifier2_text quantifier.Ex = codes "ex2 "

@@ -81,7 +81,7 @@ fn write_binder2(out: &mut String, sig: &Signature, word: &str, p: &PVar) -> Mem
     out.push_str(". ")
 }
 
-/// Writes the printed text of a formula behind what is there. It fails where memory runs out.
+/// Writes the printed text of a formula behind what is there. It fails where memory runs out, and recurses as deep as the formula.
 #[cycle(form)]
 pub fn write_form(out: &mut String, sig: &Signature, form: &Form) -> Mem<()>
     ensures { OnOk result (string_bytes out.new ≡ string_bytes out.old ++ form_text sig.now form.now) }

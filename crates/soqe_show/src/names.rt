@@ -35,6 +35,7 @@ fn write_name(out: &mut String, sig: &Signature, kind: NameKind, tag: &str, numb
     }
 }
 
+/// Writes the name of a sort, or its number where no name has it. It fails where memory runs out.
 pub fn write_sort(out: &mut String, sig: &Signature, sort: u32) -> Mem<()>
     ensures { OnOk result (string_bytes out.new ≡ string_bytes out.old ++ sort_name sig.now sort) }
 {

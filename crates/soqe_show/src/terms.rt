@@ -9,7 +9,7 @@ ghost use Rattle.soqe_show.specs.Lines.{args_text, further_args_text};
 use crate::names::{write_sym, write_var};
 use soqe_term::{Mem, Signature, Term, Terms};
 
-/// Writes a term.
+/// Writes a term. It fails where memory runs out, and recurses as deep as the term.
 #[cycle(term)]
 pub fn write_term(out: &mut String, sig: &Signature, term: &Term) -> Mem<()>
     ensures { OnOk result (string_bytes out.new ≡ string_bytes out.old ++ term_text (dress_term sig.now term.now)) }

@@ -30,10 +30,11 @@ pub record KeepsIn (f g : Form) : Type 0 where
   pub alike : (e : Sorting) → sorted e f ≡ true → AlikeIn e f g
   pub shrinks : Shrinks f g
 
--- what a row gives keeps the truth of the formula: in every world, or in those that fit
+-- what a row gives keeps the truth of the formula in every world
 abbrev pub RowKeeps : (Form → Option Form) → Type 0
 RowKeeps row = (f g : Form) → row f ≡ Some g → Keeps f g
 
+-- the same in the worlds that fit
 abbrev pub RowKeepsIn : (Form → Option Form) → Type 0
 RowKeepsIn row = (f g : Form) → row f ≡ Some g → KeepsIn f g
 

@@ -3,6 +3,7 @@ use Rattle.std.specs.Prelude.{ℕ, eqb, ◌≡◌, Bool, true, false, ◌||◌}
 use Rattle.soqe_form.specs.declared.form.Form.{Form, True, False, Equal, Atom, Not', And', Or', Imp', Iff', All', Ex', All2', Ex2', end_of-Form as end, more_of-Form as one}
 use Rattle.soqe_simp.specs.Normal.{is_simple}
 
+-- no row applies in it
 abbrev pub IsSimple : Form → Type 0
 IsSimple f = is_simple f ≡ true
 
@@ -26,11 +27,11 @@ Children P (Ex2' p _ (one f end)) = P f
 abbrev pub is_again : ℕ → Bool
 is_again n = eqb n 19 || (eqb n 20 || (eqb n 24 || (eqb n 30 || eqb n 31)))
 
--- these make two
+-- these make two new nodes, one above the other
 abbrev pub is_below : ℕ → Bool
 is_below n = eqb n 26 || eqb n 27
 
--- these make new formulas
+-- these make a new formula
 abbrev pub is_anew : ℕ → Bool
 is_anew n = eqb n 35 || (eqb n 36 || eqb n 37)
 

@@ -18,6 +18,7 @@ abbrev mutual
   has_number p (var x) = p x.num
   has_number p (App f s ts) = has_number_in p ts
 
+  -- that of a variable of one of the terms does
   pub has_number_in : (ℕ → Bool) → Terms → Bool
   has_number_in p Nil = false
   has_number_in p (Cons' _ (one-t t end-t) _ (ones-t ts ends-t)) = has_number p t || has_number_in p ts

@@ -14,8 +14,8 @@ use soqe_form::{Counts, Form, Marks, free_vars};
 use soqe_term::Mem;
 use std::alloc::Global;
 
-/// The places of the chain's quantifiers, marks on the numbers that are free in the formula, and marks on those that an
-/// equation may define: one for a quantifier `ex` in front of the formula, or one for `all`.
+/// The places of the chain's quantifiers, and marks: on the numbers that are free in the formula (`free`), on those that an equation
+/// may define for a quantifier `ex` in front of it (`sides`), and for a quantifier `all` (`conditions`).
 #[derive(Drop)]
 pub struct Known {
     pub places: Counts,

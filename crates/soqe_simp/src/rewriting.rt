@@ -18,7 +18,7 @@ pub struct Rewritten {
 }
 
 /// The first row that applies at the root of the formula, with what it gives; none where no row applies there. It copies the
-/// formula for `take_step`, whose body is the table of the rows, expanded by a macro.
+/// formula for `take_step`, whose body is the table of the rows, expanded by a macro. It recurses as deep as the formula.
 pub fn step(alloc: Global, form: &Form) -> Mem<Option<Rewritten>>
     ensures exact { IfOk result (λ r. r ≡ step_of form.now) }
 {

@@ -52,7 +52,7 @@ pub fn solved_some(alloc: Global, x: Var, form: &Form) -> Mem<Option<Boxed<Form>
     }
 }
 
-/// What is left of `all x. .. ~C`, where a conjunct of C says it.
+/// What is left of `all x. .. ~C`, where a conjunct of C says what x is.
 pub fn solved_negation(alloc: Global, x: Var, form: &Form) -> Mem<Option<Boxed<Form>>>
     ensures { IfOk result (λ r. r ≡ solved_negation_of (All x form.now)) }
 {
@@ -65,7 +65,7 @@ pub fn solved_negation(alloc: Global, x: Var, form: &Form) -> Mem<Option<Boxed<F
     }
 }
 
-/// What is left of `all x. .. C -> D`, where a conjunct of C says it.
+/// What is left of `all x. .. C -> D`, where a conjunct of C says what x is.
 pub fn solved_condition(alloc: Global, x: Var, form: &Form) -> Mem<Option<Boxed<Form>>>
     ensures { IfOk result (λ r. r ≡ solved_condition_of (All x form.now)) }
 {

@@ -99,7 +99,7 @@ fn mark_sides_below(y: Var, f: &Boxed<Form>, places: &mut Counts, marks: &mut Ma
     Ok(())
 }
 
-/// Marks those of which an equation among the conjuncts of C says it, in `all y. .. ~C` or `all y. .. C -> D`.
+/// Marks the variables of which an equation among the conjuncts of C says what they are, in `all y. .. ~C` or `all y. .. C -> D`.
 #[cycle(mark_conditions)]
 pub fn mark_conditions(form: &Form, places: &mut Counts, marks: &mut Marks) -> Mem<()>
     ensures adds { OnOk result (Adds (λ n. has_condition (counted places.old) n form.now) marks.old marks.new) }

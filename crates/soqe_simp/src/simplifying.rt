@@ -20,17 +20,17 @@ use soqe_term::Mem;
 use sqlite_items::Boxed;
 use std::alloc::Global;
 
-/// Chains that are shorter are put back without a list of what is known.
+/// Shorter chains are put back without finding out what is known of the formula behind them.
 const FEW: usize = 4;
 
 /// The formula made simple: its children first, from left to right; then the first row that applies at the root, and what
 /// it gives made simple. Where no row applies at the root, that is the end.
 ///
-/// It takes the formula apart and copies none of it: the parts and terms that are left are moved into what comes out. What most
+/// It takes the formula apart, and moves the parts and terms that are left into what comes out; rows 35 to 37 alone copy. What most
 /// rows give is known to be simple, or simple but for a node or two, and is not walked again. A chain of quantifiers of variables
 /// is put back by what is known of the formula behind it, in time linear in both, but for those that go by rows 35 to 37. Single
 /// quantifiers look for names and equations in their bodies, so that the time can be the square of the formula's size. It recurses
-/// as deep as the formula, where a chain of quantifiers counts as one.
+/// as deep as the formula, where a chain of quantifiers counts as one unless rows 35 to 37 search it: they go down it by recursion.
 #[cycle(simplify)]
 pub fn simplify(alloc: Global, form: Boxed<Form>) -> Mem<Boxed<Form>>
     ensures exact { IfOk result (λ r. r ≡ simple form) }
@@ -165,18 +165,21 @@ fn settle_first(alloc: Global, form: Boxed<Form>) -> Mem<Boxed<Form>>
     }
 }
 
+/// Whether the row makes a new node at the root alone, so that its result is settled again.
 fn is_again(row: u8) -> bool
     ensures { result ≡ is_again_of row }
 {
     row == 19 || row == 20 || row == 24 || row == 30 || row == 31
 }
 
+/// Whether the row makes two new nodes, one above the other.
 fn is_below(row: u8) -> bool
     ensures { result ≡ is_below_of row }
 {
     row == 26 || row == 27
 }
 
+/// Whether the row makes a new formula, which is made simple from its leaves on.
 fn is_anew(row: u8) -> bool
     ensures { result ≡ is_anew_of row }
 {

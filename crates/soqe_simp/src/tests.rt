@@ -1,7 +1,8 @@
 //! Formulas written behind their parts: `d` and `p` are atoms without arguments of the declared and the bound predicate 0;
 //! `0` to `3` are atoms of the declared predicate 0 with that variable; `u`, `v` and `w` are `x0 = x1`, `x1 = x0` and
-//! `x0 = x0`, `x`, `y` and `z` are `x1 = x2`, `x2 = x3` and `x0 = f(x1)`; `t` and `f` are true and false; `~`, `&`, `|`, `>` and `=` join what stands before them; `a` and `b` are `all`
-//! with the variables 0 and 1, `e` and `g` are `ex` with them; `A` and `E` bind the predicate 0.
+//! `x0 = x0`, `x`, `y` and `z` are `x1 = x2`, `x2 = x3` and `x0 = f(x1)`; `t` and `f` are true and false; `~`, `&`, `|`, `>`
+//! and `=` join what stands before them; `a` and `b` are `all` with the variables 0 and 1, `e` and `g` are `ex` with them; `A`
+//! and `E` bind the predicate 0.
 use crate::{RowTable, row_names, simplify, step};
 use soqe_form::make::{
     conjunction, disjunction, equation, equivalence, exists, exists_table, for_all, for_all_tables,

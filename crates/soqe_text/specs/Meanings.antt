@@ -49,7 +49,7 @@ abbrev pub skolem_found : ℕ → Option FunSort → Option Found
 skolem_found n None = None
 skolem_found n (Some k) = Some (record { kind = kind.Fun k.args k.result; num = n })
 
--- what a tag and a number stand for; nominals stand for nothing
+-- what a tag and a number stand for; the tag n stands for nothing
 abbrev pub tag_found : List Declaration → List SkolemSig → ℕ → ℕ → Option Found
 tag_found ds ks tag n =
     cond (tag == 112) (unnamed (count_of numbering.BoundPred ds) n (record { kind = kind.PredName; num = n }))

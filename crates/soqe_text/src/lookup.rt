@@ -60,6 +60,7 @@ fn declared<'a>(sig: &'a Signature, name: &[u8]) -> Option<Meaning<'a>>
     ensures found { MatchOption result (lookup sig.now name.now ≡ None) (λ m. lookup sig.now name.now ≡ Some (found_of m)) }
     ensures symbol { IfSome result (λ m. IsNamedBy Fun m) }
 {
+    // What it says, that the names are fewer than 2^64, serves the proof.
     let _count = sig.len();
     match sig.lookup_bytes(name) {
         None => None,

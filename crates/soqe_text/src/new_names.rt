@@ -16,7 +16,8 @@ pub(crate) enum NameFault {
     Memory,
 }
 
-/// Declares a name that is new and ordinary, and answers its number.
+/// Declares a name that is new and ordinary, and answers its number. The error says whether the name is refused or memory ran
+/// out.
 pub(crate) fn declare(sig: &mut Signature, name: &[u8], kind: Kind) -> Result<u64, NameFault>
     requires { first_unknown (count_of numbering.Sort sig.old) (sorts_named kind) ≡ None }
     ensures ok { IfOk result (λ num. IsDeclared sig.old name.now kind num sig.new) }
@@ -32,7 +33,7 @@ pub(crate) fn declare(sig: &mut Signature, name: &[u8], kind: Kind) -> Result<u6
     }
 }
 
-/// Declares a name that is new and ordinary, and answers its number.
+/// The same for a name that is a text.
 fn declare_text(sig: &mut Signature, name: &str, kind: Kind) -> Result<u64, NameFault>
     requires few { length sig.old < 2 ^ 32 - 1 }
     requires sorts { first_unknown (count_of numbering.Sort sig.old) (sorts_named kind) ≡ None }

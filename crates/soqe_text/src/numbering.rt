@@ -146,7 +146,7 @@ fn quantified_over(
     }
 }
 
-/// A formula with a sign.
+/// Two formulas joined by an operator.
 #[inline(never)]
 fn joined(alloc: Global, op: Operator, f: Boxed<Form>, g: Boxed<Form>) -> Mem<Boxed<Form>>
     ensures { IfOk result (λ r. r ≡ joined_by op f g) }
@@ -279,7 +279,7 @@ fn numbered_sides(
     Ok(joined(alloc, op, f, g)?)
 }
 
-/// The formula of a shape, where no negation and no parenthesis is left round it that a loop goes through.
+/// The formula of a shape that `bare` gives; a negation stands there only past the greatest count.
 #[cycle(numbering)]
 #[inline(always)]
 fn numbered_bare(

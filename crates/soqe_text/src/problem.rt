@@ -14,7 +14,7 @@ pub enum Problem {
 }
 
 impl Problem {
-    /// A problem that equals this one.
+    /// A problem that equals this one. It allocates each name and each node anew, and recurses as deep as the goal.
     pub fn copy(&self, alloc: Global) -> Mem<Problem>
         ensures { IfOk result (λ copy. copy ≡ self.now) }
     {

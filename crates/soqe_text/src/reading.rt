@@ -110,7 +110,7 @@ fn free_sorts(alloc: Global, sig: &Signature) -> Mem<Vec<Option<u32>>>
     Ok(sorts)
 }
 
-/// No argument sorts for each bound predicate.
+/// A list with an empty place for each bound predicate.
 #[tactic(auto, using(crate::proofs::Spelling::one_more_below))]
 fn no_sorts(alloc: Global, sig: &Signature) -> Mem<Vec<Option<Sorts>>>
     ensures { IfOk result (λ sorts. sorts.items ≡ no_sorts sig.now) }
@@ -171,7 +171,8 @@ fn problem_of(alloc: Global, bytes: &[u8], shape: &ProblemShape) -> Result<Probl
 
 /// The problem that a text spells. `Syntax` comes where the text has no shape; `Names` where it has one and a name is
 /// refused, with the first such place; `Sorts` where no name is refused and one is used wrongly or an equation is between
-/// two sorts, with the first such place; `Memory` where memory runs out.
+/// two sorts, with the first such place; `Memory` where memory runs out. It allocates the tree, the names, the formula and lists
+/// with a place for each number; the recursion is as deep as the formula.
 pub fn read_problem(alloc: Global, command: Command, bytes: &[u8]) -> Result<Problem, TextFault>
     requires { length bytes.now < 2 ^ 32 }
     ensures found { IfOk result (λ problem. Spells bytes.now problem) }

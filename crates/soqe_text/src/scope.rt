@@ -1,4 +1,4 @@
-//! The numbers of the variables that are bound round a place.
+//! The numbers of the variables, or of the predicates, that are bound round a place.
 ghost use Rattle.std.specs.Prelude.{◌≡◌, ◌+◌, ◌-◌, ◌∷◌, [], eqb, drop, IfOk, OnOk};
 ghost use Rattle.std.specs.List.{list_any};
 ghost use Rattle.std.specs.Option.{unwrap_or};
