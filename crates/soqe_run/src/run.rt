@@ -23,7 +23,8 @@ const MAX_BYTES: u64 = 1_048_576;
 ///
 /// Where the words are taken it reads the source, then builds the whole text, and then writes it in pieces of at most
 /// 4,096 bytes. From the first write on it takes no memory. The order of refusals is: words, read fault, too long,
-/// syntax, names, sorts, a stop of the method, write fault. Want of memory may come at any step before the first write.
+/// syntax, names, sorts, a stop of the method; a failed write is answered in place of any of them. Want of memory may come
+/// at any step before the first write.
 pub fn run<S: Source, O: Sink>(alloc: Global, words: &[String], src: &mut S, out: &mut O) -> Status
     ensures headline { result ≡ Status.Done
         → IsSolved (S.left src.old) (S.left src.new) (O.taken out.old) (O.taken out.new) }
