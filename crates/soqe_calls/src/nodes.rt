@@ -33,13 +33,21 @@ fn counted(form: &Form, before: u64) -> Option<u64>
     let mut count = before;
     let mut rest = form;
     loop {
-        count = count.checked_add(1)?;
         match rest {
-            Form::True | Form::False | Form::Equal(_, _) | Form::Atom(_, _) => return Some(count),
-            Form::Not(f) | Form::All(_, f) | Form::Ex(_, f) => rest = f.get(),
-            Form::All2(_, f) | Form::Ex2(_, f) => rest = f.get(),
+            Form::True | Form::False | Form::Equal(_, _) | Form::Atom(_, _) => {
+                return count.checked_add(1);
+            }
+            Form::Not(f) | Form::All(_, f) | Form::Ex(_, f) => {
+                count = count.checked_add(1)?;
+                rest = f.get();
+            }
+            Form::All2(_, f) | Form::Ex2(_, f) => {
+                count = count.checked_add(1)?;
+                rest = f.get();
+            }
             Form::And(f, g) | Form::Or(f, g) | Form::Imp(f, g) | Form::Iff(f, g) => {
-                count = counted(f.get(), count)?;
+                let left = counted(f.get(), count)?;
+                count = left.checked_add(1)?;
                 rest = g.get();
             }
         }
