@@ -5,7 +5,6 @@ pub mod GuardTruth
 pub mod GuardOf
 pub mod GuardFound
 pub mod GuardSigns
-pub mod PredSubs
 pub mod Division
 pub mod ParameterChoice
 pub mod GuardSorts

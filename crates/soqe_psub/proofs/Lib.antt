@@ -6,3 +6,4 @@ pub mod BoundArguments
 pub mod PredSorts
 pub mod PredGone
 pub mod PredSubLaws
+pub mod PredSubs
