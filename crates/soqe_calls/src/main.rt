@@ -26,7 +26,7 @@ const FAILED: u8 = 9;
 
 const USAGE: &str = "usage: soqe_calls CALL SHAPE N";
 
-// The program's words, its own name first.
+/// The program's words, its own name first.
 fn own_words(rt: &HostRuntime) -> io::Result<Vec<String>> {
     let mut words = Vec::new(rt.alloc());
     for word in env::args(rt)? {
@@ -35,7 +35,7 @@ fn own_words(rt: &HostRuntime) -> io::Result<Vec<String>> {
     Ok(words)
 }
 
-// Makes the call of the plan and writes its number.
+/// Makes the call of the plan and writes its number.
 fn measure(rt: &HostRuntime, plan: Plan) -> io::Result<()> {
     let number = follow(rt.alloc(), plan)?;
     println!(rt; "{number}")
@@ -54,7 +54,7 @@ fn main(rt: HostRuntime) -> ExitCode {
     }
 }
 
-// Words that aren't taken: a line of usage, and status 2.
+/// Words that aren't taken: a line of usage, and status 2.
 fn usage(rt: &HostRuntime) -> ExitCode {
     match eprintln!(rt; "{USAGE}") {
         Ok(()) => ExitCode::from(2),

@@ -30,7 +30,7 @@ use std::{env, io};
 /// What the program ends with where the system doesn't hand over its words. No status has this number.
 const NO_WORDS: u8 = 21;
 
-// The program's words, its own name first.
+/// The program's words, its own name first.
 fn words(rt: &HostRuntime) -> io::Result<Vec<String>> {
     let mut words = Vec::new(rt.alloc());
     for word in env::args(rt)? {
