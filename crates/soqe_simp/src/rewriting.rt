@@ -5,7 +5,7 @@ ghost use Rattle.std.specs.Prelude.{◌≡◌, IfOk};
 ghost use Rattle.soqe_simp.specs.Step.{step as step_of};
 
 use crate::stepping::{Stepped, take_step};
-use soqe_form::Form;
+use soqe_form::{Form, copy_boxed};
 use soqe_term::Mem;
 use sqlite_items::Boxed;
 use std::alloc::Global;
@@ -15,6 +15,19 @@ use std::alloc::Global;
 pub struct Rewritten {
     pub row: u8,
     pub form: Boxed<Form>,
+}
+
+impl Rewritten {
+    /// The same row, and a formula that equals this one. It allocates each node anew, and recurses as deep as the formula.
+    pub fn copy(&self, alloc: Global) -> Mem<Rewritten>
+        ensures { IfOk result (λ copy. copy ≡ self.now) }
+    {
+        let form = copy_boxed(alloc, &self.form)?;
+        Ok(Rewritten {
+            row: self.row,
+            form,
+        })
+    }
 }
 
 /// The first row that applies at the root of the formula, with what it gives; none where no row applies there. It copies the

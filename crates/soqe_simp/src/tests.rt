@@ -108,7 +108,10 @@ fn steps(alloc: Global, text: &[u8], row: u8, wanted: &[u8]) -> Mem<bool> {
     let g = made(alloc, wanted)?;
     match step(alloc, f.get())? {
         None => Ok(row == 0),
-        Some(made) => Ok(made.row == row && same(made.form.get(), g.get())),
+        Some(made) => {
+            let copy = made.copy(alloc)?;
+            Ok(copy.row == row && same(copy.form.get(), g.get()))
+        }
     }
 }
 
