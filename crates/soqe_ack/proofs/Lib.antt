@@ -16,8 +16,5 @@ pub mod Ackermann
 pub mod AckermannCases
 pub mod AckermannGone
 pub mod Applies
-pub mod SameFronts
-pub mod SameRenamed
-pub mod SameSubs
 pub mod PairedVars
 pub mod Shown

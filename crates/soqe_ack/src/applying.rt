@@ -13,7 +13,7 @@ ghost use Rattle.soqe_ack.specs.Signs.{is_pos};
 use crate::dividing::{Divided, Share, divide};
 use crate::params::parameters;
 use crate::steps::Sign;
-use soqe_form::{Form, PVar, Pred};
+use soqe_form::{Form, PVar, Pred, copy_boxed};
 use soqe_norm::case_list::Case;
 use soqe_norm::folding::{and_next, exists_in, made_or};
 use soqe_norm::nnf::nnf;
@@ -28,6 +28,22 @@ pub struct Acked {
     pub params: Vars,
     pub value: Boxed<Form>,
     pub form: Boxed<Form>,
+}
+
+impl Acked {
+    /// An answer that equals this one. It allocates each node of the formulas anew.
+    pub fn copy(&self, alloc: Global) -> Mem<Acked>
+        ensures { IfOk result (λ copy. copy ≡ self.now) }
+    {
+        let params = self.params.copy(alloc)?;
+        let value = copy_boxed(alloc, &self.value)?;
+        let form = copy_boxed(alloc, &self.form)?;
+        Ok(Acked {
+            params,
+            value,
+            form,
+        })
+    }
 }
 
 /// The case without the predicate, by the try of the sign: where every conjunct with an occurrence of the sign is a guard of

@@ -28,6 +28,22 @@ pub enum GuardEnd {
     NotGuard,
 }
 
+impl GuardEnd {
+    /// An answer that equals this one. It allocates each node of the formulas anew.
+    pub fn copy(&self, alloc: Global) -> Mem<GuardEnd>
+        ensures { IfOk result (λ copy. copy ≡ self.now) }
+    {
+        match self {
+            GuardEnd::Guard { cond, rest } => {
+                let cond = copy_boxed(alloc, cond)?;
+                let rest = copy_boxed(alloc, rest)?;
+                Ok(GuardEnd::Guard { cond, rest })
+            }
+            GuardEnd::NotGuard => Ok(GuardEnd::NotGuard),
+        }
+    }
+}
+
 /// The condition and the rest of a guard.
 #[derive(Drop)]
 pub struct Parts {

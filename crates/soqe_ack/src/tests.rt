@@ -160,7 +160,8 @@ fn a_guard_for_all_elements(rt: HostRuntime) -> Result<(), Fail> {
     let inside = either(alloc, negated(alloc, R, 1)?, atom(alloc, P, 1)?)?;
     let form = make::for_all(alloc, var(1), make::conjunction(alloc, outside, inside)?)?;
     let params = vars(alloc, &[2])?;
-    match guard(alloc, form.get(), &P, Sign::Pos, &params)? {
+    let end = guard(alloc, form.get(), &P, Sign::Pos, &params)?;
+    match end.copy(alloc)? {
         GuardEnd::Guard { cond, rest } => {
             assert!(rt; is_written(alloc, cond.get(), b"E1|f&d21=21")?);
             assert!(rt; is_written(alloc, rest.get(), b"A1&d11|~d21t")?);
@@ -193,6 +194,7 @@ fn the_least_table_of_a_positive_guard(rt: HostRuntime) -> Result<(), Fail> {
     let keep = Nums::new(alloc);
     match apply(alloc, &here, &predicate(alloc)?, Sign::Pos, &keep)? {
         Some(acked) => {
+            let acked = acked.copy(alloc)?;
             assert!(rt; is_written(alloc, acked.value.get(), b"&d10=10")?);
             assert!(rt; is_written(alloc, acked.form.get(), b"E0&|~d10t|~&d10=00d20")?);
         }

@@ -1,8 +1,8 @@
 //! Documents and their lines.
-ghost use Rattle.std.specs.Prelude.{◌≡◌, ◌∷◌, [], ◌++◌, OnOk, OnErr};
+ghost use Rattle.std.specs.Prelude.{◌≡◌, ◌∷◌, [], ◌++◌, IfOk, OnOk, OnErr};
 
 use soqe_ack::DlsStep;
-use soqe_form::{Form, Pred};
+use soqe_form::{Form, Pred, copy_boxed};
 use soqe_term::Mem;
 use soqe_text::Problem;
 use sqlite_items::Boxed;
@@ -46,6 +46,34 @@ pub enum Line {
     Result(Boxed<Form>),
     Stopped(Stop),
     End,
+}
+
+impl Line {
+    /// A line that equals this one. It allocates each node of its formulas anew.
+    pub fn copy(&self, alloc: Global) -> Mem<Line>
+        ensures { IfOk result (λ copy. copy ≡ self.now) }
+    {
+        match self {
+            Line::Start(form) => Ok(Line::Start(copy_boxed(alloc, form)?)),
+            Line::Block { method, pred } => Ok(Line::Block {
+                method: *method,
+                pred: *pred,
+            }),
+            Line::Replace { value, form } => {
+                let form = copy_boxed(alloc, form)?;
+                Ok(Line::Replace {
+                    value: *value,
+                    form,
+                })
+            }
+            Line::Nnf(form) => Ok(Line::Nnf(copy_boxed(alloc, form)?)),
+            Line::Dls(step) => Ok(Line::Dls(step.copy(alloc)?)),
+            Line::Close(form) => Ok(Line::Close(copy_boxed(alloc, form)?)),
+            Line::Result(form) => Ok(Line::Result(copy_boxed(alloc, form)?)),
+            Line::Stopped(stop) => Ok(Line::Stopped(*stop)),
+            Line::End => Ok(Line::End),
+        }
+    }
 }
 
 /// Lines, in order. Contracts see their list.
@@ -101,6 +129,17 @@ impl Lines {
         self.items.append(&mut items)?;
         Ok(())
     }
+
+    /// Lines that equal these. It allocates each node of their formulas anew.
+    pub fn copy(&self, alloc: Global) -> Mem<Lines>
+        ensures { IfOk result (λ copy. copy ≡ self.now) }
+    {
+        let mut copy = Lines::new(alloc);
+        for line in self.items.as_slice() {
+            copy.push(line.copy(alloc)?)?;
+        }
+        Ok(copy)
+    }
 }
 
 /// A derivation: the problem, and the lines behind its own.
@@ -108,4 +147,15 @@ impl Lines {
 pub struct Document {
     pub problem: Problem,
     pub lines: Lines,
+}
+
+impl Document {
+    /// A document that equals this one. It allocates each name and each node anew.
+    pub fn copy(&self, alloc: Global) -> Mem<Document>
+        ensures { IfOk result (λ copy. copy ≡ self.now) }
+    {
+        let problem = self.problem.copy(alloc)?;
+        let lines = self.lines.copy(alloc)?;
+        Ok(Document { problem, lines })
+    }
 }

@@ -149,7 +149,8 @@ fn problem(alloc: Global) -> Mem<Problem> {
 }
 
 fn is_spelled(alloc: Global, document: &Document, text: &[u8]) -> Mem<bool> {
-    let written = write_document(alloc, document)?;
+    let copy = document.copy(alloc)?;
+    let written = write_document(alloc, &copy)?;
     Ok(written.as_slice() == text)
 }
 

@@ -25,6 +25,26 @@ pub enum DlsEnd {
     NotReached { steps: DlsSteps, case: u64 },
 }
 
+impl DlsEnd {
+    /// An answer that equals this one. It allocates each node of the formulas anew.
+    pub fn copy(&self, alloc: Global) -> Mem<DlsEnd>
+        ensures { IfOk result (λ copy. copy ≡ self.now) }
+    {
+        match self {
+            DlsEnd::Done { steps, form } => {
+                let steps = steps.copy(alloc)?;
+                let form = copy_boxed(alloc, form)?;
+                let end = DlsEnd::Done { steps, form };
+                Ok(end)
+            }
+            DlsEnd::NotReached { steps, case } => {
+                let steps = steps.copy(alloc)?;
+                Ok(DlsEnd::NotReached { steps, case: *case })
+            }
+        }
+    }
+}
+
 /// The answer for `ex2 P. form`, where the form is a negation normal form and `pred` is P. The cases of the form with distinct
 /// bound variables are taken one after another; each loses the predicate by the first plain try that succeeds, positive before
 /// negative. Binders get no number of `keep`, and neither do parameters.

@@ -1,5 +1,5 @@
 //! Lists of steps. Contracts see one as the list of its steps.
-ghost use Rattle.std.specs.Prelude.{◌≡◌, ◌∷◌, [], ◌++◌, OnOk, OnErr};
+ghost use Rattle.std.specs.Prelude.{◌≡◌, ◌∷◌, [], ◌++◌, IfOk, OnOk, OnErr};
 
 use soqe_ack::DlsStep;
 use soqe_term::Mem;
@@ -56,5 +56,16 @@ impl DlsSteps {
     {
         self.items.push(step)?;
         Ok(())
+    }
+
+    /// Steps that equal these. It allocates each node of their formulas anew.
+    pub fn copy(&self, alloc: Global) -> Mem<DlsSteps>
+        ensures { IfOk result (λ copy. copy ≡ self.now) }
+    {
+        let mut copy = DlsSteps::new(alloc);
+        for step in self.items.as_slice() {
+            copy.push(step.copy(alloc)?)?;
+        }
+        Ok(copy)
     }
 }

@@ -229,7 +229,8 @@ fn answer(alloc: Global, text: &[u8], kept: &[u64]) -> Mem<Vec<u8>> {
     let form = made(alloc, pairs.as_slice())?;
     let pred = predicate(alloc)?;
     let end = dls(alloc, form.get(), &pred, &keep)?;
-    shown(alloc, &end)
+    let copy = end.copy(alloc)?;
+    shown(alloc, &copy)
 }
 
 #[test]

@@ -29,6 +29,24 @@ pub enum FlowEnd {
     Stopped { document: Document, stop: Stop },
 }
 
+impl FlowEnd {
+    /// An end that equals this one. It allocates each name and each node of the document anew.
+    pub fn copy(&self, alloc: Global) -> Mem<FlowEnd>
+        ensures { IfOk result (λ copy. copy ≡ self.now) }
+    {
+        match self {
+            FlowEnd::Done(document) => Ok(FlowEnd::Done(document.copy(alloc)?)),
+            FlowEnd::Stopped { document, stop } => {
+                let document = document.copy(alloc)?;
+                Ok(FlowEnd::Stopped {
+                    document,
+                    stop: *stop,
+                })
+            }
+        }
+    }
+}
+
 /// The derivation of a problem: the first block of what stands is eliminated until there is none. It moves the problem
 /// into the document, and fails where memory runs out, or where a stop's number does not fit in 64 bits.
 pub fn elim(alloc: Global, problem: Problem, wanted: Wanted) -> Mem<FlowEnd>

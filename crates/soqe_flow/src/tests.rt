@@ -116,7 +116,8 @@ fn derivation(alloc: Global, goal: Boxed<Form>, wanted: Wanted) -> Mem<FlowEnd>
     requires { (e : Sorting) → sorted e goal ≡ true }
 {
     let sig = Signature::new(alloc)?;
-    elim(alloc, posed(sig, goal), wanted)
+    let end = elim(alloc, posed(sig, goal), wanted)?;
+    end.copy(alloc)
 }
 
 fn posed(sig: Signature, goal: Boxed<Form>) -> Problem

@@ -41,3 +41,7 @@ pub mod PredRenamings
 pub mod FirstUnmarked
 pub mod FreeAtoms
 pub mod PredSorts
+pub mod SameFronts
+pub mod SameRenamed
+pub mod SameSubs
+pub mod SubstitutedNames

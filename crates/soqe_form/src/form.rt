@@ -60,6 +60,23 @@ pub struct Block {
     pub body: Boxed<Form>,
 }
 
+impl Block {
+    /// A block that equals this one. It allocates each node of the body anew, and recurses as deep as the body.
+    pub fn copy(&self, alloc: Global) -> Mem<Block>
+        ensures { IfOk result (λ copy. copy ≡ self.now) }
+    {
+        let place = self.place.copy(alloc)?;
+        let pred = self.pred.copy(alloc)?;
+        let body = copy_boxed(alloc, &self.body)?;
+        Ok(Block {
+            place,
+            exists: self.exists,
+            pred,
+            body,
+        })
+    }
+}
+
 impl Form {
     /// A formula that equals this one. It allocates each node anew.
     #[cycle(copy)]

@@ -178,6 +178,18 @@ fn the_first_block_is_leftmost(rt: HostRuntime) -> Result<(), Fail> {
 }
 
 #[test]
+fn a_copied_block_is_the_block(rt: HostRuntime) -> Result<(), Fail> {
+    let alloc = rt.alloc();
+    let form = two_blocks(alloc)?;
+    let Some(block) = first_block(alloc, form.get())? else {
+        panic!(rt; "no block is found");
+    };
+    let copy = Some(block.copy(alloc)?);
+    assert!(rt; is_block(alloc, &copy, &[0, 1], true, 0, b"T")?);
+    Ok(())
+}
+
+#[test]
 fn the_first_block_is_found_where_it_stands(rt: HostRuntime) -> Result<(), Fail> {
     let alloc = rt.alloc();
     let form = two_blocks(alloc)?;

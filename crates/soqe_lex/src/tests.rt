@@ -9,7 +9,8 @@ use std::test::Fail;
 fn shown(alloc: Global, text: &[u8]) -> Result<String, Fail> {
     let found = lexemes(alloc, text)?;
     let mut out = String::new(alloc);
-    for token in found.tokens.as_slice() {
+    let tokens = found.tokens.copy(alloc)?;
+    for token in tokens.as_slice() {
         let kind = match token.kind {
             TokenKind::Ordinary => 'o',
             TokenKind::Keyword => 'k',

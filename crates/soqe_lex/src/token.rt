@@ -1,5 +1,5 @@
 //! Tokens with their places in the text.
-ghost use Rattle.std.specs.Prelude.{◌≡◌, ◌∷◌, [], ◌++◌, OnOk, OnErr};
+ghost use Rattle.std.specs.Prelude.{◌≡◌, ◌∷◌, [], ◌++◌, IfOk, OnOk, OnErr};
 
 use std::alloc::{AllocError, Global};
 use std::marker::Model;
@@ -63,6 +63,14 @@ impl TokenList {
     {
         self.items.push(token)?;
         Ok(())
+    }
+
+    /// Tokens that equal these.
+    pub fn copy(&self, alloc: Global) -> Result<TokenList, AllocError>
+        ensures { IfOk result (λ copy. copy ≡ self.now) }
+    {
+        let items = Vec::from_slice(alloc, self.items.as_slice())?;
+        Ok(TokenList { items })
     }
 }
 

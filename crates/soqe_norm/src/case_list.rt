@@ -89,4 +89,15 @@ impl CaseList {
         self.items.push(case)?;
         Ok(())
     }
+
+    /// Cases that equal these. It allocates each node of their formulas anew.
+    pub fn copy(&self, alloc: Global) -> Mem<CaseList>
+        ensures { IfOk result (λ copy. copy ≡ self.now) }
+    {
+        let mut copy = CaseList::new(alloc);
+        for case in self.items.as_slice() {
+            copy.push(case.copy(alloc)?)?;
+        }
+        Ok(copy)
+    }
 }

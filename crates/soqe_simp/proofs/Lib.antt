@@ -10,7 +10,6 @@ mod Signs
 pub mod Points
 pub mod Vacuous
 pub mod Ignoring
-pub mod SubstitutedNames
 pub mod Solved
 pub mod SolvedRows
 pub mod Steps

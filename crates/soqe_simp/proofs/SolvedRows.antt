@@ -33,7 +33,7 @@ use Rattle.soqe_simp.proofs.Options.{mapped, found_first}
 use Rattle.soqe_simp.proofs.Points.{some-point, every-point}
 use Rattle.soqe_simp.proofs.Vacuous.{beside}
 use Rattle.soqe_simp.proofs.Ignoring.{weight-sub, free_pred-sub}
-use Rattle.soqe_simp.proofs.SubstitutedNames.{free-sub}
+use Rattle.soqe_form.proofs.SubstitutedNames.{free-sub}
 use Rattle.soqe_simp.proofs.Solved.{Says, equation-says, turned-says, left-says, right-says, condition-says, negation-says, some-says, every-says, below_shown, sorted_term-unused}
 
 -- ---- what is found says what x is

@@ -29,7 +29,8 @@ fn cases_of(alloc: Global, text: &[u8], kept: &[u64]) -> Mem<Vec<u8>> {
     let keep = Nums::from_vec(Vec::from_slice(alloc, kept)?);
     let form = made(alloc, text)?;
     let list = cases(alloc, form.get(), &P, &keep)?;
-    shown(alloc, &list)
+    let copy = list.copy(alloc)?;
+    shown(alloc, &copy)
 }
 
 #[test]

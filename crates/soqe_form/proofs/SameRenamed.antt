@@ -33,7 +33,7 @@ use Rattle.soqe_form.proofs.SameCases.{never}
 use Rattle.soqe_form.proofs.SameNumbers.{Named}
 use Rattle.soqe_form.proofs.SameOrder.{IsDiagonal, same_pred-self, same_sorts-from, diagonal-under}
 use Rattle.soqe_form.proofs.Tidied.{same-tidied}
-use Rattle.soqe_ack.proofs.SameFronts.{Pairs, lefts, twins, twins-diagonal, same_in-turned, fit-first, same_in-chained}
+use Rattle.soqe_form.proofs.SameFronts.{Pairs, lefts, twins, twins-diagonal, same_in-turned, fit-first, same_in-chained}
 
 -- each variable that passes the test and bears its sort in v is named the same as its term
 abbrev pub NamesSame : (ℕ → Bool) → Pairs → (ℕ → Option ℕ) → List Pair → Type 0

@@ -31,8 +31,8 @@ use Rattle.soqe_form.proofs.SameOrder.{IsDiagonal, same_pred-self, same_sorts-fr
 use Rattle.soqe_form.proofs.Sortings.{sorted-agree}
 use Rattle.soqe_form.proofs.SubstitutedSorts.{sorted-renamed, free-renamed}
 use Rattle.soqe_form.proofs.Substitutions.{IsFresh, fresh-is}
-use Rattle.soqe_ack.proofs.SameFronts.{Pairs, lefts, twins, twins-diagonal, fit-first, fit-under, same_in-chained}
-use Rattle.soqe_ack.proofs.SameRenamed.{NamesSame, names-left, names-right, same_term-bound, same_atom-bound, Puts, same-renamed}
+use Rattle.soqe_form.proofs.SameFronts.{Pairs, lefts, twins, twins-diagonal, fit-first, fit-under, same_in-chained}
+use Rattle.soqe_form.proofs.SameRenamed.{NamesSame, names-left, names-right, same_term-bound, same_atom-bound, Puts, same-renamed}
 
 -- ---- one more pair
 
