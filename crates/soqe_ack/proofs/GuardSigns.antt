@@ -1,31 +1,19 @@
 -- Signs of guards: a formula without the predicate has none, and a guard with the predicate has the sign. And the parameters
 -- are free to choose.
-use Rattle.std.proofs.Common.{◌≡◌, ℕ, Bool, true, false, cond, not, ◌||◌, ◌&&◌, List, refl, ◌∙◌, ap, ⊎_elim}
+use Rattle.std.proofs.Common.{◌≡◌, ℕ, Bool, true, false, cond, not, ◌||◌, ◌&&◌, List, refl, ⊎_elim}
 use Rattle.std.proofs.lemmas.Bool.{or_from, or_cases, or_left, or_right, both_ways}
 use Rattle.soqe_term.specs.declared.term.Var.{Var}
 use Rattle.soqe_term.specs.declared.term.Terms.{Terms}
 use Rattle.soqe_term.proofs.Choices.{or_none_first, or_none_second}
 use Rattle.soqe_form.specs.declared.form.Pred.{Pred}
-use Rattle.soqe_form.specs.declared.form.Pred.TheVariants.{Decl, Bound}
 use Rattle.soqe_form.specs.declared.form.Form.{Form, True, False, Equal, Atom, Not', And, And', Or, Or', Imp', Iff', All, All', Ex, Ex', All2', Ex2', end_of-Form as end, more_of-Form as one}
 use Rattle.soqe_form.specs.Boxes.{boxes}
 use Rattle.soqe_form.specs.FreePreds.{same_pred, hides, has_free}
 use Rattle.soqe_form.proofs.FreePreds.{same_pred-self}
 use Rattle.soqe_norm.specs.Nnf.{nnf}
 use Rattle.soqe_norm.specs.Rises.{has_sign}
-use Rattle.soqe_norm.specs.Signs.{same_pred as is_same, hides as is_hidden}
 use Rattle.soqe_ack.specs.GuardLaws.{HasParts}
 use Rattle.soqe_ack.specs.Guards.{literal, equations, IsGuard, lacking, literally, conjoined, quantified, on_right, on_left}
-
-same-is : (p q : Pred) → is_same p q ≡ same_pred p q
-same-is (Decl m) (Decl n) = refl
-same-is (Decl m) (Bound n) = refl
-same-is (Bound m) (Decl n) = refl
-same-is (Bound m) (Bound n) = refl
-
-hidden-is : (n : ℕ) (q : Pred) → is_hidden n q ≡ hides n q
-hidden-is n (Decl m) = refl
-hidden-is n (Bound m) = refl
 
 and_false : (s a : Bool) → a ≡ false → (s && a) ≡ false
 and_false true a h = h
@@ -37,8 +25,8 @@ hidden-lacks false a b k h = k h
 
 module _ (q : Pred) where
   below : (n : ℕ) (s : Bool) (f : Form) → (has_free q f ≡ false → has_sign s q f ≡ false) → cond (hides n q) false (has_free q f) ≡ false
-      → cond (is_hidden n q) false (has_sign s q f) ≡ false
-  below n s f k h = ap (λ o. cond o false (has_sign s q f)) (hidden-is n q) ∙ hidden-lacks (hides n q) (has_free q f) (has_sign s q f) k h
+      → cond (hides n q) false (has_sign s q f) ≡ false
+  below n s f k h = hidden-lacks (hides n q) (has_free q f) (has_sign s q f) k h
 
   -- a formula without the predicate has no sign
   pub no_sign : (f : Form) → has_free q f ≡ false → (s : Bool) → has_sign s q f ≡ false
@@ -46,7 +34,7 @@ module _ (q : Pred) where
   no_sign True h s = refl
   no_sign False h s = refl
   no_sign (Equal a b) h s = refl
-  no_sign (Atom p ts) h s = and_false s (is_same q p) (same-is q p ∙ h)
+  no_sign (Atom p ts) h s = and_false s (same_pred q p) h
   no_sign (Not' _ (one f end)) h s = no_sign f h (not s)
   no_sign (And' _ (one f end) _ (one g end)) h s =
       or_from (has_sign s q f) (has_sign s q g) (no_sign f (or_none_first (has_free q f) (has_free q g) h) s) (no_sign g (or_none_second (has_free q f) (has_free q g) h) s)
@@ -67,8 +55,8 @@ module _ (q : Pred) where
 
 literal-sign : (s : Bool) (q : Pred) (ts : Terms) → has_sign s q (literal s q ts) ≡ true
 unfolding boxes
-literal-sign true q ts = same-is q q ∙ same_pred-self q
-literal-sign false q ts = same-is q q ∙ same_pred-self q
+literal-sign true q ts = same_pred-self q
+literal-sign false q ts = same_pred-self q
 
 module _ (s : Bool) (q : Pred) (xs : List Var) where
   -- a guard with the predicate has the sign

@@ -2,13 +2,11 @@
 
 ghost use Rattle.std.specs.Prelude.{◌≡◌, IfOk, OnOk};
 ghost use Rattle.std.specs.List.{list_any};
-ghost use Rattle.soqe_term.specs.Unused.{member};
-ghost use Rattle.soqe_form.specs.FreeVars.{is_among};
 ghost use Rattle.soqe_form.specs.Marks.{marked, Adds};
 ghost use Rattle.soqe_form.specs.Mentions.{mentions};
 ghost use Rattle.soqe_ack.specs.Acked.{is_used, AreParameters};
 
-use soqe_form::{Form, Forms, Marks, mark_form};
+use soqe_form::{Form, Forms, Marks, mark_form, mark_numbers, mark_variables};
 use soqe_term::{Mem, Nums, Sorts, Var, Vars};
 use sqlite_items::Boxed;
 use std::alloc::Global;
@@ -36,24 +34,6 @@ fn mark_used(keep: &Nums, vars: &Vars, conj: &Forms, used: &mut Marks) -> Mem<()
     mark_forms(conj.as_slice(), used)?;
     mark_variables(vars.as_slice(), used)?;
     mark_numbers(keep.as_slice(), used)
-}
-
-fn mark_numbers(numbers: &[u64], used: &mut Marks) -> Mem<()>
-    ensures { OnOk result (Adds (λ n. member n numbers.now) used.old used.new) }
-{
-    for number in numbers {
-        used.set(*number, true)?;
-    }
-    Ok(())
-}
-
-fn mark_variables(variables: &[Var], used: &mut Marks) -> Mem<()>
-    ensures { OnOk result (Adds (λ n. is_among variables.now n) used.old used.new) }
-{
-    for variable in variables {
-        used.set(variable.num, true)?;
-    }
-    Ok(())
 }
 
 fn mark_forms(forms: &[Boxed<Form>], used: &mut Marks) -> Mem<()>

@@ -1,15 +1,15 @@
 //! A predicate's value as it is shown: with small numbers for its parameters.
 
-ghost use Rattle.std.specs.Prelude.{◌≡◌, ◌||◌, ◌&&◌, not, map, length, IfOk, OnOk};
+ghost use Rattle.std.specs.Prelude.{◌≡◌, ◌||◌, ◌&&◌, not, map, length, IfOk};
 ghost use Rattle.soqe_term.specs.Unused.{member};
 ghost use Rattle.soqe_form.specs.Free.{free};
 ghost use Rattle.soqe_form.specs.FreeVars.{is_among};
-ghost use Rattle.soqe_form.specs.Marks.{marked, Adds};
+ghost use Rattle.soqe_form.specs.Marks.{marked};
 ghost use Rattle.soqe_ack.specs.Acked.{AreParameters};
 ghost use Rattle.soqe_ack.specs.GuardLaws.{AreDistinct};
 ghost use Rattle.soqe_ack.specs.Tries.{IsShown, by_vars};
 
-use soqe_form::{Form, Marks, subst_all, tidy};
+use soqe_form::{Form, Marks, mark_numbers, subst_all, tidy};
 use soqe_psub::mark_own;
 use soqe_term::{Binding, Mem, Nums, Term, Var, Vars};
 use sqlite_items::Boxed;
@@ -45,18 +45,8 @@ fn used_numbers(alloc: Global, params: &Vars, value: &Form, keep: &Nums) -> Mem<
     ensures { IfOk result (λ m. marked m ≡ (λ n. member n keep.now || (free n value.now && not (is_among params.now n)))) }
 {
     let mut used = mark_own(alloc, params, value)?;
-    mark_kept(keep.as_slice(), &mut used)?;
+    mark_numbers(keep.as_slice(), &mut used)?;
     Ok(used)
-}
-
-/// Marks the numbers to keep out.
-fn mark_kept(keep: &[u64], marks: &mut Marks) -> Mem<()>
-    ensures { OnOk result (Adds (λ n. member n keep.now) marks.old marks.new) }
-{
-    for number in keep {
-        marks.set(*number, true)?;
-    }
-    Ok(())
 }
 
 /// Variables of the same sorts, each with the least number that has no mark; it then gets one. Each search begins where the last

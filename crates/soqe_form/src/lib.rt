@@ -44,7 +44,7 @@ pub use free_preds::{has_free_pred, is_hidden, is_same_pred, mark_preds};
 pub use free_variables::free_vars;
 pub use lists::{Forms, PVars};
 pub use marks::Marks;
-pub use names::{is_free, mark_form, mark_term};
+pub use names::{is_free, mark_form, mark_numbers, mark_term, mark_variables};
 pub use pred_renaming::rename_pred;
 pub use put::put_in;
 pub use renaming::{rename, rename_boxed};

@@ -1,9 +1,11 @@
-//! The numbers of a formula's variables.
+//! Marks on numbers of variables: those of a list, of a term, of a formula.
 #![tactic(auto, unfolding(crate::specs::Boxes::boxes))]
 
 ghost use Rattle.std.specs.Prelude.{◌≡◌, OnOk};
 ghost use Rattle.soqe_term.specs.Occurs.{occurs as occurs_in, occurs_any};
+ghost use Rattle.soqe_term.specs.Unused.{member};
 ghost use Rattle.soqe_form.specs.Free.{free};
+ghost use Rattle.soqe_form.specs.FreeVars.{is_among};
 ghost use Rattle.soqe_form.specs.Mentions.{mentions};
 ghost use Rattle.soqe_form.specs.Marks.{Adds};
 
@@ -27,6 +29,26 @@ pub fn is_free(form: &Form, num: u64) -> bool
         Form::Not(f) | Form::All2(_, f) | Form::Ex2(_, f) => is_free(f.get(), num),
         Form::All(x, f) | Form::Ex(x, f) => num != x.num && is_free(f.get(), num),
     }
+}
+
+/// Marks the numbers.
+pub fn mark_numbers(numbers: &[u64], marks: &mut Marks) -> Mem<()>
+    ensures { OnOk result (Adds (λ n. member n numbers.now) marks.old marks.new) }
+{
+    for number in numbers {
+        marks.set(*number, true)?;
+    }
+    Ok(())
+}
+
+/// Marks the numbers of the variables.
+pub fn mark_variables(variables: &[Var], marks: &mut Marks) -> Mem<()>
+    ensures { OnOk result (Adds (λ n. is_among variables.now n) marks.old marks.new) }
+{
+    for variable in variables {
+        marks.set(variable.num, true)?;
+    }
+    Ok(())
 }
 
 /// Marks the numbers of a term's variables.

@@ -1,11 +1,12 @@
 //! The numbers that are not to be kept out.
 
-ghost use Rattle.std.specs.Prelude.{◌≡◌, IfOk, IfSome, OnOk};
+ghost use Rattle.std.specs.Prelude.{◌≡◌, IfOk, IfSome};
 ghost use Rattle.soqe_term.specs.Unused.{member};
-ghost use Rattle.soqe_form.specs.Marks.{marked, Adds};
+ghost use Rattle.soqe_form.specs.Marks.{marked};
 ghost use Rattle.soqe_form.specs.Unkept.{AreFirst, Keeps, IsLeastBeside};
 
 use crate::marks::Marks;
+use crate::names::mark_numbers;
 use soqe_term::{Mem, Nums};
 use std::alloc::Global;
 
@@ -26,7 +27,7 @@ impl Unkept {
         ensures { IfOk result (Keeps keep.now) }
     {
         let mut kept = Marks::new(alloc);
-        mark_all(keep, &mut kept)?;
+        mark_numbers(keep.as_slice(), &mut kept)?;
         let end = (keep.as_slice().len() as u64).saturating_add(count);
         let others = unmarked_below(alloc, &kept, end)?;
         Ok(Unkept { kept, others })
@@ -55,16 +56,6 @@ fn is_member(num: u64, nums: &[u64]) -> bool
     ensures { result ≡ member num nums.now }
 {
     nums.iter().any(|n| num == *n)
-}
-
-/// Marks the numbers of a list.
-fn mark_all(nums: &Nums, marks: &mut Marks) -> Mem<()>
-    ensures { OnOk result (Adds (λ n. member n nums.now) marks.old marks.new) }
-{
-    for n in nums.as_slice() {
-        marks.set(*n, true)?;
-    }
-    Ok(())
 }
 
 /// The numbers below the end that have no mark.

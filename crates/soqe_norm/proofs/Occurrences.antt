@@ -4,7 +4,8 @@ use Rattle.std.specs.List.{list_any}
 use Rattle.std.proofs.lemmas.List.Folds.{list_any-append}
 use Rattle.soqe_form.specs.declared.form.Pred.{Pred}
 use Rattle.soqe_form.specs.declared.form.Form.{Form, True, False, Equal, Atom, Not', And', Or', Imp', Iff', All', Ex', All2', Ex2', end_of-Form as end, more_of-Form as one}
-use Rattle.soqe_norm.specs.Signs.{Signs, same_pred, hides, turned, both, signs_under}
+use Rattle.soqe_form.specs.FreePreds.{same_pred, hides}
+use Rattle.soqe_norm.specs.Signs.{Signs, turned, both, signs_under}
 use Rattle.soqe_norm.specs.Valued.{occurs_pos, occurs_neg}
 use Rattle.soqe_norm.specs.Rises.{has_sign}
 

@@ -10,7 +10,7 @@ use Rattle.soqe_form.specs.declared.form.Pred.{Pred}
 use Rattle.soqe_form.specs.declared.form.Pred.TheVariants.{Decl, Bound}
 use Rattle.soqe_form.specs.declared.form.Form.{Form, True, False, Equal, Atom, Not', And', Or', Imp', Iff', All', Ex', All2', Ex2', end_of-Form as end, more_of-Form as one}
 use Rattle.soqe_form.specs.Truth.{truth, holds, alike}
-use Rattle.soqe_norm.specs.Signs.{same_pred}
+use Rattle.soqe_form.specs.FreePreds.{same_pred}
 use Rattle.soqe_norm.specs.Rises.{has_sign, Grows}
 
 every-rises : (n : ℕ) (p q : ℕ → Bool) → ((a : ℕ) → p a ≡ true → q a ≡ true) → every n p ≡ true → every n q ≡ true

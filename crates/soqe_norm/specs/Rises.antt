@@ -2,7 +2,7 @@
 use Rattle.std.specs.Prelude.{ℕ, ◌≡◌, Bool, true, false, cond, not, ◌&&◌, ◌||◌, List}
 use Rattle.soqe_form.specs.declared.form.Pred.{Pred}
 use Rattle.soqe_form.specs.declared.form.Form.{Form, True, False, Equal, Atom, Not', And', Or', Imp', Iff', All', Ex', All2', Ex2', end_of-Form as end, more_of-Form as one}
-use Rattle.soqe_norm.specs.Signs.{same_pred, hides}
+use Rattle.soqe_form.specs.FreePreds.{same_pred, hides}
 
 -- the predicate has an occurrence of the sign, true for positive
 abbrev pub has_sign : Bool → Pred → Form → Bool

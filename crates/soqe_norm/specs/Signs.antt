@@ -1,18 +1,8 @@
 -- The signs with which a predicate occurs.
-use Rattle.std.specs.Prelude.{ℕ, Bool, true, false, cond, eqb, ◌||◌, List, [], ◌∷◌, ◌++◌}
+use Rattle.std.specs.Prelude.{ℕ, Bool, true, false, cond, ◌||◌, List, [], ◌∷◌, ◌++◌}
 use Rattle.soqe_form.specs.declared.form.Pred.{Pred}
-use Rattle.soqe_form.specs.declared.form.Pred.TheVariants.{Decl, Bound}
+use Rattle.soqe_form.specs.FreePreds.{same_pred, hides}
 use Rattle.soqe_form.specs.declared.form.Form.{Form, True, False, Equal, Atom, Not', And', Or', Imp', Iff', All', Ex', All2', Ex2', end_of-Form as end, more_of-Form as one}
-
--- two predicates are one
-abbrev pub same_pred : Pred → Pred → Bool
-same_pred (Decl m) (Decl n) = eqb m n
-same_pred (Bound m) (Bound n) = eqb m n
-same_pred _ _ = false
-
--- a binder of the predicate with the number n hides the predicate
-abbrev pub hides : ℕ → Pred → Bool
-hides n p = same_pred p (Bound n)
 
 -- the signs of an occurrence: under `<->` it has both
 pub record Signs : Type 0 where

@@ -18,7 +18,7 @@ use soqe_form::make::{
     conjunction, disjunction, equivalence, exists, exists_table, for_all, for_all_tables,
     implication, negation,
 };
-use soqe_form::{Form, Marks, free_vars};
+use soqe_form::{Form, Marks, free_vars, mark_numbers, mark_variables};
 use soqe_term::{Mem, Nums, Renaming, Term, Var, Vars, renumber as renumber_term, renumber_all};
 use sqlite_items::Boxed;
 use std::alloc::Global;
@@ -47,7 +47,7 @@ fn new_numbers(alloc: Global, form: &Form, keep: &Nums) -> Mem<Nums>
     mark_first(keep, &free, &mut taken)?;
     let mut used = Marks::new(alloc);
     mark_first(keep, &free, &mut used)?;
-    mark_all(old.as_slice(), &mut used)?;
+    mark_numbers(old.as_slice(), &mut used)?;
     chosen(alloc, old.as_slice(), &mut taken, &mut used)
 }
 
@@ -55,26 +55,8 @@ fn new_numbers(alloc: Global, form: &Form, keep: &Nums) -> Mem<Nums>
 fn mark_first(keep: &Nums, free: &Vars, marks: &mut Marks) -> Mem<()>
     ensures { OnOk result (Adds (λ n. member n keep.now || is_among free.now n) marks.old marks.new) }
 {
-    mark_all(keep.as_slice(), marks)?;
+    mark_numbers(keep.as_slice(), marks)?;
     mark_variables(free.as_slice(), marks)
-}
-
-fn mark_all(numbers: &[u64], marks: &mut Marks) -> Mem<()>
-    ensures { OnOk result (Adds (λ n. member n numbers.now) marks.old marks.new) }
-{
-    for number in numbers {
-        marks.set(*number, true)?;
-    }
-    Ok(())
-}
-
-fn mark_variables(variables: &[Var], marks: &mut Marks) -> Mem<()>
-    ensures { OnOk result (Adds (λ n. is_among variables.now n) marks.old marks.new) }
-{
-    for variable in variables {
-        marks.set(variable.num, true)?;
-    }
-    Ok(())
 }
 
 /// Adds the numbers of the binders, from left to right, an outer one before the inner ones.

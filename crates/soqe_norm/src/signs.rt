@@ -2,11 +2,11 @@
 #![tactic(auto, unfolding(soqe_form::specs::Boxes::boxes))]
 
 ghost use Rattle.std.specs.Prelude.{◌≡◌, Bool, true, false, cond, None};
-ghost use Rattle.soqe_norm.specs.Signs.{Signs, same_pred, hides, turned, both, signs_under};
+ghost use Rattle.soqe_norm.specs.Signs.{Signs, turned, both, signs_under};
 ghost use Rattle.soqe_norm.specs.Valued.{occurs_pos, occurs_neg, first_pos, first_neg};
 ghost use Rattle.soqe_norm.specs.Passes.{signs_in, next, note, noted, scanned, capped};
 
-use soqe_form::{Form, PVar, Pred};
+use soqe_form::{Form, Pred, is_hidden, is_same_pred};
 
 /// Whether a predicate has positive occurrences, and whether it has negative ones.
 #[derive(Clone, Copy, Debug, PartialEq, Eq)]
@@ -67,30 +67,6 @@ pub fn first_signs(form: &Form, pred: &Pred) -> FirstSigns
     }
 }
 
-fn is_same(p: &Pred, q: &Pred) -> bool
-    ensures { result ≡ same_pred p.now q.now }
-{
-    match p {
-        Pred::Decl(m) => match q {
-            Pred::Decl(n) => *m == *n,
-            Pred::Bound(_) => false,
-        },
-        Pred::Bound(m) => match q {
-            Pred::Decl(_) => false,
-            Pred::Bound(n) => *m == *n,
-        },
-    }
-}
-
-fn is_hidden(binder: &PVar, pred: &Pred) -> bool
-    ensures { result ≡ hides binder.now.num pred.now }
-{
-    match pred {
-        Pred::Decl(_) => false,
-        Pred::Bound(n) => *n == binder.num,
-    }
-}
-
 fn under_negation(under: SignPair) -> SignPair
     ensures { signs_in result ≡ turned (signs_in under) }
 {
@@ -141,7 +117,7 @@ fn scan(form: &Form, pred: &Pred, under: SignPair, before: Passed) -> Passed
         Form::False => before,
         Form::Equal(_, _) => before,
         Form::Atom(p, _) => {
-            if is_same(pred, p) {
+            if is_same_pred(pred, p) {
                 with_atom(before, under)
             } else {
                 before

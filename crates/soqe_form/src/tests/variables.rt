@@ -2,7 +2,9 @@
 ghost use Rattle.std.specs.Prelude.{◌≡◌};
 
 use super::{equation, sides};
-use crate::{Form, PVars, free_vars, make, subst, well_sorted};
+use crate::{
+    Form, Marks, PVars, free_vars, make, mark_numbers, mark_variables, subst, well_sorted,
+};
 use soqe_term::{Mem, Signature, SkolemSigs, Term, Var, Vars};
 use sqlite_items::Boxed;
 use std::alloc::Global;
@@ -38,6 +40,16 @@ fn free_variables_are_listed_once(rt: HostRuntime) -> Result<(), Fail> {
     let form = with_binder(alloc)?;
     let vars = free_vars(alloc, form.get())?;
     assert!(rt; vars.as_slice() == [var(1), var(2), var(3)].as_slice());
+    Ok(())
+}
+
+#[test]
+fn the_numbers_of_lists_are_marked(rt: HostRuntime) -> Result<(), Fail> {
+    let mut marks = Marks::new(rt.alloc());
+    mark_numbers(&[0, 3], &mut marks)?;
+    mark_variables(&[var(1), var(5)], &mut marks)?;
+    assert!(rt; marks.has(3) && marks.has(5) && !marks.has(4));
+    assert!(rt; marks.least_unmarked() == 2);
     Ok(())
 }
 
