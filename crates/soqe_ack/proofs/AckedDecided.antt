@@ -12,7 +12,7 @@ use Rattle.soqe_form.specs.declared.form.PVar.{PVar}
 use Rattle.soqe_form.specs.declared.form.Form.{Form}
 use Rattle.soqe_form.specs.FreeVars.{is_among}
 use Rattle.soqe_form.specs.Mentions.{mentions, form_above, depth}
-use Rattle.soqe_form.proofs.Renamings.{mentions-above}
+use Rattle.soqe_subst.proofs.Renamings.{mentions-above}
 use Rattle.soqe_norm.specs.Apart.{IsLeast}
 use Rattle.soqe_norm.specs.Folds.{case_form}
 use Rattle.soqe_norm.specs.Rises.{has_sign}

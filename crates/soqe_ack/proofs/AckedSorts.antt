@@ -12,7 +12,7 @@ use Rattle.soqe_form.specs.declared.form.Form.{Form, Ex2}
 use Rattle.soqe_form.specs.Boxes.{boxes}
 use Rattle.soqe_form.specs.FreeVars.{is_among}
 use Rattle.soqe_form.specs.Sorted.{sorted}
-use Rattle.soqe_form.proofs.PredSorts.{sorted-unchanged}
+use Rattle.soqe_subst.proofs.PredSorts.{sorted-unchanged}
 use Rattle.soqe_norm.specs.Folds.{any_of, all_of, exists_in, case_form}
 use Rattle.soqe_norm.specs.Nnf.{nnf}
 use Rattle.soqe_norm.proofs.Folded.{all_pass, sorted-any, sorted-all}

@@ -26,7 +26,7 @@ use Rattle.soqe_form.specs.FreeVars.{is_among}
 use Rattle.soqe_form.specs.Mentions.{mentions}
 use Rattle.soqe_form.specs.Sorted.{sorted, pred_sorts}
 use Rattle.soqe_form.specs.Truth.{truth, holds}
-use Rattle.soqe_form.proofs.FreeAtoms.{pred_sorts-over_var}
+use Rattle.soqe_subst.proofs.FreeAtoms.{pred_sorts-over_var}
 use Rattle.soqe_norm.specs.Nnf.{nnf}
 use Rattle.soqe_norm.proofs.Nnfs.{truth-nnf}
 use Rattle.soqe_psub.specs.PredSubstLaws.{with_args}

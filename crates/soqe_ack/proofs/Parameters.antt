@@ -18,7 +18,7 @@ use Rattle.soqe_form.specs.Free.{free}
 use Rattle.soqe_form.specs.FreeVars.{is_among}
 use Rattle.soqe_form.specs.Truth.{truth, holds}
 use Rattle.soqe_form.proofs.Agree.{truth-agree}
-use Rattle.soqe_form.proofs.Renamings.{free-mentions}
+use Rattle.soqe_subst.proofs.Renamings.{free-mentions}
 use Rattle.soqe_psub.specs.PredSubstLaws.{with_args}
 use Rattle.soqe_ack.specs.Guards.{equations_after, equations}
 use Rattle.soqe_ack.specs.GuardLaws.{at, AgreeOff, elements_of, sorts_of, StandNowhere, AreDistinct}

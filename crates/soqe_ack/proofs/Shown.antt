@@ -14,11 +14,11 @@ use Rattle.soqe_form.specs.FreeVars.{is_among}
 use Rattle.soqe_form.specs.Mentions.{depth}
 use Rattle.soqe_form.specs.Same.{same_in, same}
 use Rattle.soqe_form.specs.Sorted.{sorted}
-use Rattle.soqe_form.specs.Substitution.{sub}
-use Rattle.soqe_form.specs.Tidy.{tidy}
+use Rattle.soqe_subst.specs.Substitution.{sub}
+use Rattle.soqe_tidy.specs.Tidy.{tidy}
 use Rattle.soqe_form.proofs.SameOrder.{same-turned}
 use Rattle.soqe_form.proofs.SameSorted.{sorted-same}
-use Rattle.soqe_form.proofs.Tidied.{same-tidied}
+use Rattle.soqe_tidy.proofs.Tidied.{same-tidied}
 use Rattle.soqe_ack.specs.Acked.{AreParameters}
 use Rattle.soqe_ack.specs.AckedLaws.{below}
 use Rattle.soqe_ack.specs.GuardLaws.{AreDistinct}

@@ -10,8 +10,8 @@ use Rattle.soqe_form.specs.declared.form.Form.{Form, All}
 use Rattle.soqe_form.specs.Free.{free}
 use Rattle.soqe_form.specs.FreeVars.{is_among}
 use Rattle.soqe_form.specs.Mentions.{depth}
-use Rattle.soqe_form.specs.Substitution.{sub}
-use Rattle.soqe_form.specs.Tidy.{tidy}
+use Rattle.soqe_subst.specs.Substitution.{sub}
+use Rattle.soqe_tidy.specs.Tidy.{tidy}
 use Rattle.soqe_norm.specs.Folds.{case_form}
 use Rattle.soqe_ack.specs.Acked.{AreParameters, IsAcked, IsStuck}
 

@@ -3,10 +3,10 @@ use Rattle.std.specs.Prelude.{ℕ, ◌≡◌, List, [], false, length}
 use Rattle.soqe_form.specs.declared.form.Form.{Form}
 use Rattle.soqe_form.specs.declared.form.Pred.TheVariants.{Decl}
 use Rattle.soqe_form.specs.FreeVars.{free_vars}
-use Rattle.soqe_form.specs.Tidy.{tidy}
+use Rattle.soqe_tidy.specs.Tidy.{tidy}
 use Rattle.soqe_form.specs.Mentions.{depth}
-use Rattle.soqe_form.specs.Substitution.{sub}
-use Rattle.soqe_form.specs.IsSub.{single}
+use Rattle.soqe_subst.specs.Substitution.{sub}
+use Rattle.soqe_subst.specs.IsSub.{single}
 use Rattle.soqe_norm.specs.declared.case_list.Case.{Case}
 use Rattle.soqe_norm.specs.CasesLaws.{AreCases}
 use Rattle.soqe_norm.specs.Nnf.{nnf}

@@ -3,7 +3,7 @@
 
 ghost use Rattle.std.specs.Prelude.{◌≡◌, IfOk, [], false, length};
 ghost use Rattle.soqe_form.specs.FreeVars.{free_vars as free_vars_of};
-ghost use Rattle.soqe_form.specs.Tidy.{tidy as tidy_form};
+ghost use Rattle.soqe_tidy.specs.Tidy.{tidy as tidy_form};
 ghost use Rattle.soqe_norm.specs.Nnf.{nnf as normal};
 ghost use Rattle.soqe_simp.specs.Simplified.{simplify as simple};
 ghost use Rattle.soqe_calls.specs.Nodes.{nodes as nodes_of};
@@ -14,12 +14,14 @@ use crate::nodes::count_nodes;
 use crate::shapes::{image, list, numbered, shaped};
 use crate::texts::answer_text;
 use crate::words::{Call, Plan};
-use soqe_form::{Form, Pred, copy_boxed, free_vars, same, subst, tidy};
+use soqe_form::{Form, Pred, copy_boxed, free_vars, same};
 use soqe_norm::apart::apart;
 use soqe_norm::cases::cases;
 use soqe_norm::nnf::nnf;
 use soqe_simp::simplify;
+use soqe_subst::subst;
 use soqe_term::{Mem, Nums, least_unused};
+use soqe_tidy::tidy;
 use sqlite_items::Boxed;
 use std::alloc::Global;
 

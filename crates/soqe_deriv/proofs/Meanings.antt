@@ -6,10 +6,10 @@ use Rattle.soqe_form.specs.declared.form.Form.{Form}
 use Rattle.soqe_form.specs.Alike.{AlikeIn}
 use Rattle.soqe_form.specs.Same.{same}
 use Rattle.soqe_form.specs.Sorted.{sorted}
-use Rattle.soqe_form.specs.Tidy.{tidy}
+use Rattle.soqe_tidy.specs.Tidy.{tidy}
 use Rattle.soqe_form.proofs.SameTruth.{truth-same}
 use Rattle.soqe_form.proofs.SameSorted.{sorted-same}
-use Rattle.soqe_form.proofs.Tidied.{same-tidy}
+use Rattle.soqe_tidy.proofs.Tidied.{same-tidy}
 use Rattle.soqe_simp.specs.Simplified.{simplify}
 use Rattle.soqe_simp.proofs.Simplifies.{simplify-keeps}
 use Rattle.soqe_deriv.specs.Valid.{simplified}

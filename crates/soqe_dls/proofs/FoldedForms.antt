@@ -4,10 +4,10 @@ use Rattle.std.proofs.lemmas.List.{length_push, length-map}
 use Rattle.soqe_term.specs.declared.term.Var.{Var}
 use Rattle.soqe_form.specs.declared.form.Form.{Form, And, And', Ex, Ex', end_of-Form as end, more_of-Form as one}
 use Rattle.soqe_form.specs.Boxes.{boxes}
-use Rattle.soqe_form.specs.Tidy.{tidied, tidy}
+use Rattle.soqe_tidy.specs.Tidy.{tidied, tidy}
 use Rattle.soqe_norm.specs.Folds.{and_after, all_of, exists_in, case_form}
 use Rattle.soqe_norm.proofs.FoldedParts.{exists_in-push, last-joined, and-sides, ex-parts, exists_in-parts}
-use Rattle.soqe_norm.proofs.FoldedTidy.{tidy-in-front, tidy-all}
+use Rattle.soqe_dls.proofs.FoldedTidy.{tidy-in-front, tidy-all}
 use Rattle.soqe_dls.specs.Parts.{IsOfCase, HasInFront, HasConjuncts, is_conjunction, is_existential}
 
 pub existential-default : (f : Form) → is_existential f ≡ true → ((x : Var) (g : Form) → f ≡ Ex x g → ⊥) → ⊥

@@ -1,4 +1,5 @@
 mod FoldedForms
+mod FoldedTidy
 mod NewParameters
 mod Running
 mod RunTruth

@@ -8,9 +8,9 @@ use Rattle.soqe_form.specs.declared.form.Pred.TheVariants.{Bound}
 use Rattle.soqe_form.specs.declared.form.PVar.{PVar}
 use Rattle.soqe_form.specs.declared.form.Form.{Form}
 use Rattle.soqe_form.specs.Places.{has_blocks}
-use Rattle.soqe_form.specs.Tidy.{tidy}
+use Rattle.soqe_tidy.specs.Tidy.{tidy}
 use Rattle.soqe_form.proofs.SamePures.{blocks-same}
-use Rattle.soqe_form.proofs.Tidied.{same-tidy}
+use Rattle.soqe_tidy.proofs.Tidied.{same-tidy}
 use Rattle.soqe_norm.specs.declared.case_list.Case.{Case}
 use Rattle.soqe_norm.specs.Cases.{form_of}
 use Rattle.soqe_norm.proofs.Counts.{cases-bare}

@@ -6,7 +6,7 @@ use Rattle.std.proofs.lemmas.List.Elements.{All-from_recursion, recursion_from_A
 use Rattle.soqe_form.specs.declared.form.Pred.TheVariants.{Bound}
 use Rattle.soqe_form.specs.declared.form.PVar.{PVar}
 use Rattle.soqe_form.specs.declared.form.Form.{Form}
-use Rattle.soqe_form.specs.Tidy.{tidy}
+use Rattle.soqe_tidy.specs.Tidy.{tidy}
 use Rattle.soqe_norm.specs.declared.case_list.Case.{Case}
 use Rattle.soqe_norm.specs.CasesLaws.{AreCases}
 use Rattle.soqe_ack.specs.declared.steps.DlsStep.{DlsStep}

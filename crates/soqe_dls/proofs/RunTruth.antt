@@ -17,11 +17,11 @@ use Rattle.soqe_form.specs.declared.form.Form.{Form, Ex2}
 use Rattle.soqe_form.specs.Alike.{AlikeIn}
 use Rattle.soqe_form.specs.Boxes.{boxes}
 use Rattle.soqe_form.specs.Sorted.{sorted}
-use Rattle.soqe_form.specs.Tidy.{tidy}
+use Rattle.soqe_tidy.specs.Tidy.{tidy}
 use Rattle.soqe_form.specs.Truth.{truth}
 use Rattle.soqe_form.proofs.SameSorted.{sorted-same}
 use Rattle.soqe_form.proofs.SameTruth.{truth-same}
-use Rattle.soqe_form.proofs.Tidied.{same-tidy}
+use Rattle.soqe_tidy.proofs.Tidied.{same-tidy}
 use Rattle.soqe_norm.specs.declared.case_list.Case.{Case}
 use Rattle.soqe_norm.specs.Cases.{form_of, some_case}
 use Rattle.soqe_norm.specs.Folds.{any_of, case_form}

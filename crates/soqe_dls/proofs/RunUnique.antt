@@ -7,7 +7,7 @@ use Rattle.soqe_form.specs.declared.form.Pred.{Pred}
 use Rattle.soqe_form.specs.declared.form.Pred.TheVariants.{Bound}
 use Rattle.soqe_form.specs.declared.form.PVar.{PVar}
 use Rattle.soqe_form.specs.declared.form.Form.{Form}
-use Rattle.soqe_form.specs.Tidy.{tidy}
+use Rattle.soqe_tidy.specs.Tidy.{tidy}
 use Rattle.soqe_norm.specs.declared.case_list.Case.{Case}
 use Rattle.soqe_norm.specs.Apart.{IsLeast, IsChoice, AreChoices, IsApart, binders, renumbered, taken_first}
 use Rattle.soqe_norm.specs.Cases.{cases_of}

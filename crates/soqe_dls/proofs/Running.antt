@@ -8,7 +8,7 @@ use Rattle.soqe_form.specs.declared.form.Form.{Form}
 use Rattle.soqe_norm.specs.declared.case_list.Case.{Case}
 use Rattle.soqe_form.specs.declared.form.Pred.TheVariants.{Bound}
 use Rattle.soqe_form.specs.Constants.{constant}
-use Rattle.soqe_form.specs.Tidy.{tidy}
+use Rattle.soqe_tidy.specs.Tidy.{tidy}
 use Rattle.soqe_norm.specs.Folds.{case_form}
 use Rattle.soqe_norm.specs.Joins.{with_or, or_onto}
 use Rattle.soqe_norm.proofs.Joins.{or_onto-push, joined_any}

@@ -10,11 +10,12 @@ use crate::shown_value::shown;
 use crate::steps::DlsSteps;
 use crate::tidy_case::tidy_case;
 use soqe_ack::{DlsStep, Tried, first_try};
-use soqe_form::{Form, PVar, Pred, copy_boxed, tidy};
+use soqe_form::{Form, PVar, Pred, copy_boxed};
 use soqe_norm::case_list::{Case, CaseList};
 use soqe_norm::cases::cases;
 use soqe_norm::folding::{case_form, made_or, or_next};
 use soqe_term::{Mem, Nums};
+use soqe_tidy::tidy;
 use sqlite_items::Boxed;
 use std::alloc::Global;
 

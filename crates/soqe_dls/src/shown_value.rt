@@ -9,9 +9,11 @@ ghost use Rattle.soqe_ack.specs.Acked.{AreParameters};
 ghost use Rattle.soqe_ack.specs.GuardLaws.{AreDistinct};
 ghost use Rattle.soqe_ack.specs.Tries.{IsShown, by_vars};
 
-use soqe_form::{Form, Marks, mark_numbers, subst_all, tidy};
+use soqe_form::{Form, Marks, mark_numbers};
 use soqe_psub::mark_own;
+use soqe_subst::subst_all;
 use soqe_term::{Binding, Mem, Nums, Term, Var, Vars};
+use soqe_tidy::tidy;
 use sqlite_items::Boxed;
 use std::alloc::Global;
 

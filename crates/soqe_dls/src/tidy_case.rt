@@ -6,10 +6,11 @@ ghost use Rattle.soqe_ack.specs.Tries.{IsTidyCase};
 ghost use Rattle.soqe_dls.specs.Parts.{IsOfCase};
 
 use crate::taking::{take_conjuncts, take_vars};
-use soqe_form::{Form, tidy};
+use soqe_form::Form;
 use soqe_norm::case_list::Case;
 use soqe_norm::folding::case_form;
 use soqe_term::{Mem, Nums};
+use soqe_tidy::tidy;
 use sqlite_items::Boxed;
 use std::alloc::Global;
 

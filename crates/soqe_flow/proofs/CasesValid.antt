@@ -14,9 +14,9 @@ use Rattle.soqe_form.specs.declared.form.Block.{Block}
 use Rattle.soqe_form.specs.Boxes.{boxes}
 use Rattle.soqe_form.specs.Same.{same}
 use Rattle.soqe_form.specs.Sorted.{sorted}
-use Rattle.soqe_form.specs.Tidy.{tidy}
+use Rattle.soqe_tidy.specs.Tidy.{tidy}
 use Rattle.soqe_form.proofs.SameSorted.{sorted-same}
-use Rattle.soqe_form.proofs.Tidied.{same-tidy}
+use Rattle.soqe_tidy.proofs.Tidied.{same-tidy}
 use Rattle.soqe_norm.specs.declared.case_list.Case.{Case}
 use Rattle.soqe_norm.specs.Cases.{form_of}
 use Rattle.soqe_norm.specs.Folds.{case_form}

@@ -5,8 +5,9 @@ use Rattle.soqe_term.proofs.Choices.{by_cases}
 use Rattle.soqe_form.specs.declared.form.Form.{Form}
 use Rattle.soqe_form.specs.declared.form.Block.{Block}
 use Rattle.soqe_form.specs.Places.{first_block, put_at, has_blocks, count_blocks}
-use Rattle.soqe_form.specs.Tidy.{tidy}
-use Rattle.soqe_form.proofs.BlockCounts.{count-none, none-counted, count-tidy, blocks-by_count, fewer-blocks}
+use Rattle.soqe_tidy.specs.Tidy.{tidy}
+use Rattle.soqe_form.proofs.BlockCounts.{count-none, none-counted, blocks-by_count, fewer-blocks}
+use Rattle.soqe_tidy.proofs.TidiedBlocks.{count-tidy}
 use Rattle.soqe_form.proofs.FirstBlocks.{block-bare}
 use Rattle.soqe_simp.specs.Simplified.{simplify}
 use Rattle.soqe_simp.proofs.Simplifies.{simplify-keeps}

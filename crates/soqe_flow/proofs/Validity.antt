@@ -14,7 +14,7 @@ use Rattle.soqe_form.specs.Sorted.{sorted}
 use Rattle.soqe_form.proofs.FirstBlocks.{sorted-block}
 use Rattle.soqe_form.proofs.SameOrder.{same-self, same-equal}
 use Rattle.soqe_form.proofs.SameSorted.{sorted-same}
-use Rattle.soqe_form.proofs.Tidied.{same-tidy}
+use Rattle.soqe_tidy.proofs.Tidied.{same-tidy}
 use Rattle.soqe_norm.specs.declared.case_list.Case.{Case}
 use Rattle.soqe_norm.specs.CasesLaws.{AreCases}
 use Rattle.soqe_norm.specs.Nnf.{nnf}

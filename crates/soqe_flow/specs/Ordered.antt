@@ -4,7 +4,7 @@ use Rattle.soqe_form.specs.declared.form.Form.{Form}
 use Rattle.soqe_form.specs.declared.form.Pred.TheVariants.{Bound}
 use Rattle.soqe_form.specs.declared.form.Block.{Block}
 use Rattle.soqe_form.specs.Places.{first_block, put_at}
-use Rattle.soqe_form.specs.Tidy.{tidy}
+use Rattle.soqe_tidy.specs.Tidy.{tidy}
 use Rattle.soqe_norm.specs.Nnf.{nnf}
 use Rattle.soqe_norm.specs.Valued.{valued, value_for, first_pos, first_neg}
 use Rattle.soqe_ack.specs.declared.steps.DlsStep.{DlsStep}

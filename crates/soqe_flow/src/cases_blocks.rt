@@ -13,9 +13,10 @@ use crate::closing::{block_line, write_close};
 use crate::simplifying::simplified;
 use soqe_deriv::{Line, Lines, Method, Stop};
 use soqe_dls::{DlsEnd, DlsSteps, dls};
-use soqe_form::{BlockRef, Form, tidy};
+use soqe_form::{BlockRef, Form};
 use soqe_norm::nnf::nnf;
 use soqe_term::{Mem, Nums};
+use soqe_tidy::tidy;
 use sqlite_items::Boxed;
 use std::alloc::Global;
 

@@ -13,10 +13,11 @@ use crate::blocks::BlockEnd;
 use crate::closing::{block_line, write_close};
 use crate::simplifying::simplified;
 use soqe_deriv::{Line, Lines, Method, Stop};
-use soqe_form::{BlockRef, Form, Pred, copy_boxed, tidy};
+use soqe_form::{BlockRef, Form, Pred, copy_boxed};
 use soqe_norm::signs::first_signs;
 use soqe_norm::valued::{value_for, valued};
 use soqe_term::{Mem, Nums};
+use soqe_tidy::tidy;
 use sqlite_items::Boxed;
 use std::alloc::{AllocError, Global};
 

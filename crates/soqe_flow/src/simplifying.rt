@@ -2,10 +2,11 @@
 ghost use Rattle.std.specs.Prelude.{◌≡◌, map, IfOk};
 ghost use Rattle.soqe_deriv.specs.Valid.{kept as kept_of, simplified as simplified_of};
 
-use soqe_form::{Form, tidy};
+use soqe_form::Form;
 use soqe_simp::simplify;
 use soqe_term::{Mem, Nums, Var};
 use soqe_text::Problem;
+use soqe_tidy::tidy;
 use sqlite_items::Boxed;
 use std::alloc::Global;
 

@@ -1,16 +1,11 @@
--- How many quantifiers of predicates stand in a formula: none exactly where it has none, as many after renaming, substitution
--- and tidying, and one fewer where the first block is replaced by a formula without any.
-use Rattle.std.proofs.Common.{◌≡◌, ℕ, zero, suc, ◌+◌, ◌<◌, ◌≤◌, Bool, true, false, cond, eqb, ◌||◌, List, [], ◌∷◌, Option, Some, None, refl, ◌∙◌, ap, arith}
-use Rattle.soqe_term.specs.World.{changed}
-use Rattle.soqe_term.specs.declared.bindings.Bound.{Bound as Pair}
-use Rattle.soqe_term.specs.declared.term.Var.{Var}
-use Rattle.soqe_term.proofs.Choices.{by_cases, bool_cases, same_test}
+-- How many quantifiers of predicates stand in a formula: none exactly where it has none, and one fewer where the first block is
+-- replaced by a formula without any.
+use Rattle.std.proofs.Common.{◌≡◌, ℕ, zero, suc, ◌+◌, ◌<◌, ◌≤◌, Bool, true, false, cond, eqb, ◌||◌, List, [], ◌∷◌, Option, Some, None, refl, ap, arith}
+use Rattle.soqe_term.proofs.Choices.{bool_cases, same_test}
 use Rattle.soqe_form.specs.declared.form.Form.{Form, True, False, Equal, Atom, Not', And, And', Or, Or', Imp, Imp', Iff, Iff', All', Ex', All2, All2', Ex2, Ex2', end_of-Form as end, more_of-Form as one}
 use Rattle.soqe_form.specs.declared.form.Block.{Block}
 use Rattle.soqe_form.specs.Boxes.{boxes}
 use Rattle.soqe_form.specs.Places.{part_at, put_at, first_child, child, first_block, quantified, has_blocks, count_blocks}
-use Rattle.soqe_form.specs.Substitution.{without, renamed, numbered, fresh, catches, new_body, sub}
-use Rattle.soqe_form.specs.Tidy.{tidied, tidy_number, tidy}
 use Rattle.soqe_form.proofs.FirstBlocks.{block-stands, block-bare}
 
 -- ---- none exactly where there is none
@@ -64,75 +59,6 @@ blocks-from_count f g h k =
 -- formulas with as many of them have one together
 pub blocks-by_count : (f g : Form) → count_blocks g ≡ count_blocks f → has_blocks g ≡ has_blocks f
 blocks-by_count f g h = same_test (has_blocks g) (has_blocks f) (blocks-from_count f g (omega arith)) (blocks-from_count g f (omega arith))
-
--- ---- renaming and substitution
-
-either_way : (b : Bool) (f g : Form) → count_blocks g ≡ count_blocks f → count_blocks (cond b f g) ≡ count_blocks f
-either_way true f g h = refl
-either_way false f g h = h
-
-pub count-renamed : (y : ℕ) (z : Var) (f : Form) → count_blocks (renamed y z f) ≡ count_blocks f
-unfolding boxes
-count-renamed y z True = refl
-count-renamed y z False = refl
-count-renamed y z (Equal s t) = refl
-count-renamed y z (Atom p ts) = refl
-count-renamed y z (Not' _ (one f end)) = count-renamed y z f
-count-renamed y z (And' _ (one f end) _ (one g end)) = λ i. count-renamed y z f i + count-renamed y z g i
-count-renamed y z (Or' _ (one f end) _ (one g end)) = λ i. count-renamed y z f i + count-renamed y z g i
-count-renamed y z (Imp' _ (one f end) _ (one g end)) = λ i. count-renamed y z f i + count-renamed y z g i
-count-renamed y z (Iff' _ (one f end) _ (one g end)) = λ i. count-renamed y z f i + count-renamed y z g i
-count-renamed y z (All' x _ (one f end)) = either_way (eqb x.num y) f (renamed y z f) (count-renamed y z f)
-count-renamed y z (Ex' x _ (one f end)) = either_way (eqb x.num y) f (renamed y z f) (count-renamed y z f)
-count-renamed y z (All2' q _ (one f end)) = λ i. suc (count-renamed y z f i)
-count-renamed y z (Ex2' q _ (one f end)) = λ i. suc (count-renamed y z f i)
-
-count-body : (bs : List Pair) (y : Var) (f : Form) → count_blocks (new_body bs y f) ≡ count_blocks f
-count-body bs y f = by_cases (λ r. count_blocks r ≡ count_blocks f) (catches bs y f) (renamed y.num (numbered y (fresh bs f)) f) f (λ _. count-renamed y.num (numbered y (fresh bs f)) f) (λ _. refl)
-
-pub count-sub : (k : ℕ) (bs : List Pair) (f : Form) → count_blocks (sub k bs f) ≡ count_blocks f
-unfolding boxes
-count-sub zero bs f = refl
-count-sub (suc k) bs True = refl
-count-sub (suc k) bs False = refl
-count-sub (suc k) bs (Equal s t) = refl
-count-sub (suc k) bs (Atom p ts) = refl
-count-sub (suc k) bs (Not' _ (one f end)) = count-sub k bs f
-count-sub (suc k) bs (And' _ (one f end) _ (one g end)) = λ i. count-sub k bs f i + count-sub k bs g i
-count-sub (suc k) bs (Or' _ (one f end) _ (one g end)) = λ i. count-sub k bs f i + count-sub k bs g i
-count-sub (suc k) bs (Imp' _ (one f end) _ (one g end)) = λ i. count-sub k bs f i + count-sub k bs g i
-count-sub (suc k) bs (Iff' _ (one f end) _ (one g end)) = λ i. count-sub k bs f i + count-sub k bs g i
-count-sub (suc k) bs (All' x _ (one f end)) = count-sub k (without x.num bs) (new_body (without x.num bs) x f) ∙ count-body (without x.num bs) x f
-count-sub (suc k) bs (Ex' x _ (one f end)) = count-sub k (without x.num bs) (new_body (without x.num bs) x f) ∙ count-body (without x.num bs) x f
-count-sub (suc k) bs (All2' q _ (one f end)) = λ i. suc (count-sub k bs f i)
-count-sub (suc k) bs (Ex2' q _ (one f end)) = λ i. suc (count-sub k bs f i)
-
-pub has_blocks-renamed : (y : ℕ) (z : Var) (f : Form) → has_blocks (renamed y z f) ≡ has_blocks f
-has_blocks-renamed y z f = blocks-by_count f (renamed y z f) (count-renamed y z f)
-
-pub has_blocks-sub : (k : ℕ) (bs : List Pair) (f : Form) → has_blocks (sub k bs f) ≡ has_blocks f
-has_blocks-sub k bs f = blocks-by_count f (sub k bs f) (count-sub k bs f)
-
--- ---- tidying
-
-pub count-tidied : (keep : List ℕ) (r : ℕ → ℕ) (f : Form) → count_blocks (tidied keep r f) ≡ count_blocks f
-unfolding boxes
-count-tidied keep r True = refl
-count-tidied keep r False = refl
-count-tidied keep r (Equal s t) = refl
-count-tidied keep r (Atom p ts) = refl
-count-tidied keep r (Not' _ (one f end)) = count-tidied keep r f
-count-tidied keep r (And' _ (one f end) _ (one g end)) = λ i. count-tidied keep r f i + count-tidied keep r g i
-count-tidied keep r (Or' _ (one f end) _ (one g end)) = λ i. count-tidied keep r f i + count-tidied keep r g i
-count-tidied keep r (Imp' _ (one f end) _ (one g end)) = λ i. count-tidied keep r f i + count-tidied keep r g i
-count-tidied keep r (Iff' _ (one f end) _ (one g end)) = λ i. count-tidied keep r f i + count-tidied keep r g i
-count-tidied keep r (All' x _ (one f end)) = count-tidied keep (changed r x.num (tidy_number keep r x.num f)) f
-count-tidied keep r (Ex' x _ (one f end)) = count-tidied keep (changed r x.num (tidy_number keep r x.num f)) f
-count-tidied keep r (All2' q _ (one f end)) = λ i. suc (count-tidied keep r f i)
-count-tidied keep r (Ex2' q _ (one f end)) = λ i. suc (count-tidied keep r f i)
-
-pub count-tidy : (keep : List ℕ) (f : Form) → count_blocks (tidy keep f) ≡ count_blocks f
-count-tidy keep f = count-tidied keep (λ n. n) f
 
 -- ---- a part replaced
 

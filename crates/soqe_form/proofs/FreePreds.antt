@@ -15,7 +15,7 @@ use Rattle.soqe_form.specs.declared.form.Form.{Form, True, False, Equal, Atom, N
 use Rattle.soqe_form.specs.Truth.{truth, holds, alike}
 use Rattle.soqe_form.specs.Free.{free_pred, is_bound}
 use Rattle.soqe_form.specs.FreePreds.{same_pred, hides, has_free, with_pred}
-use Rattle.soqe_form.proofs.Renamings.{eqb-swap}
+use Rattle.soqe_form.proofs.Numbers.{eqb-swap}
 
 pub same_pred-self : (q : Pred) → same_pred q q ≡ true
 same_pred-self (Decl n) = eqb-self n

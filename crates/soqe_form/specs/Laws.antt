@@ -13,10 +13,6 @@ use Rattle.soqe_form.specs.Sorted.{sorted}
 use Rattle.soqe_form.specs.Alike.{AlikeIn}
 use Rattle.soqe_form.specs.Pure.{IsBare, is_first_order}
 use Rattle.soqe_form.specs.FreeVars.{free_vars, is_among}
-use Rattle.soqe_form.specs.Mentions.{depth}
-use Rattle.soqe_form.specs.Substitution.{sub}
-use Rattle.soqe_term.specs.declared.bindings.Bound.{Bound}
-use Rattle.soqe_term.specs.Bindings.{with_binding, over_binding, HasOwnSorts, AreSorted}
 use Rattle.soqe_form.specs.Places.{part_at, put_at, scope_at, first_block, quantified, has_blocks}
 
 -- truth depends on the free variables and the free bound predicates alone
@@ -84,12 +80,3 @@ BareIsFirstOrder = (f : Form) (e : Sorting) → IsBare e → sorted e f ≡ true
 -- the free variables of a formula are those of the list
 abbrev pub FreeVarsAreListed : Type 0
 FreeVarsAreListed = (f : Form) (n : ℕ) → is_among (free_vars f) n ≡ free n f
-
--- the truth after a substitution is the truth where each variable has the value of its term
-abbrev pub SubHasTruth : Type 0
-SubHasTruth = (k : ℕ) (w : World) (s : List Bound) (f : Form) → depth f ≤ k → truth w (sub k s f) ≡ truth (with_binding w s) f
-
--- the result of a substitution is well sorted wherever the terms are, each of its variable's sort, and the formula is where
--- the variables are known
-abbrev pub SubIsSorted : Type 0
-SubIsSorted = (k : ℕ) (e : Sorting) (s : List Bound) (f : Form) → depth f ≤ k → HasOwnSorts s → AreSorted e s → sorted (over_binding e s) f ≡ true → sorted e (sub k s f) ≡ true

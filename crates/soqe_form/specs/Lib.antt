@@ -8,12 +8,8 @@ pub mod Collects
 pub mod Sorted
 pub mod Scope
 pub mod Mentions
-pub mod Substitution
-pub mod IsSub
-pub mod Substitutes
+pub mod MentionsPreds
 pub mod FreePreds
-pub mod PredRenaming
-pub mod PredLaws
 pub mod Alike
 pub mod Places
 pub mod Pure
@@ -23,11 +19,4 @@ pub mod Same
 pub mod Pairs
 pub mod SameLaws
 pub mod Samples
-pub mod Tidy
 pub mod Counts
-pub mod Numbers
-pub mod Uses
-pub mod Tallies
-pub mod Tidies
-pub mod TidyLaws
-pub mod Unkept

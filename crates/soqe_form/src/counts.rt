@@ -58,14 +58,14 @@ impl Counts {
     pub fn add(&mut self, n: u64, more: u64) -> Mem<()>
         ensures { OnOk result (IsMore (λ m. cond (eqb m n) more 0) self.old self.new) }
     {
-        let count = sum(more, self.of(n))?;
+        let count = sum_of_counts(more, self.of(n))?;
         self.set(n, count)?;
         Ok(())
     }
 }
 
 /// The sum of two counts. No memory holds more numbers than can be counted.
-pub fn sum(a: u64, b: u64) -> Mem<u64>
+pub fn sum_of_counts(a: u64, b: u64) -> Mem<u64>
     ensures { IfOk result (λ n. n ≡ a + b) }
 {
     match a.checked_add(b) {

@@ -4,7 +4,7 @@
 ghost use Rattle.std.specs.Prelude.{◌≡◌, OnOk};
 ghost use Rattle.soqe_form.specs.Free.{is_bound};
 ghost use Rattle.soqe_form.specs.FreePreds.{same_pred, hides, has_free};
-ghost use Rattle.soqe_form.specs.PredRenaming.{mentions_pred};
+ghost use Rattle.soqe_form.specs.MentionsPreds.{mentions_pred};
 ghost use Rattle.soqe_form.specs.Marks.{Adds};
 
 use crate::form::{Form, PVar, Pred};

@@ -4,8 +4,7 @@ ghost use Rattle.std.specs.Prelude.{◌≡◌, true, false, [], ◌∷◌, Some,
 ghost use Rattle.soqe_form.specs.declared.form.Form.{True, False, Not, Or, All, Ex2};
 ghost use Rattle.soqe_form.specs.Truth.{truth};
 ghost use Rattle.soqe_form.specs.Places.{part_at, put_at, first_block};
-ghost use Rattle.soqe_form.specs.Laws.{FreeNamesDecide, RangeDecides, SomeTableIsListed, EveryTableIsListed, PutKeepsTruth, PutKeepsSorts, PartsAreSorted, BlockStands, BlockIsFound, BlockIsInnermost, BlockIsSorted, FreeIsKnown, BareIsFirstOrder, FreeVarsAreListed, SubHasTruth, SubIsSorted};
-ghost use Rattle.soqe_form.specs.TidyLaws.{TidyKeepsTruth, TidyKeepsSorts, TidyKeepsFree, TidyKeepsFreePreds, TidyKeepsOccurrences, TidyKeepsBlocks, TidyKeepsOrder, TidyIsSame, TidyIsTidy};
+ghost use Rattle.soqe_form.specs.Laws.{FreeNamesDecide, RangeDecides, SomeTableIsListed, EveryTableIsListed, PutKeepsTruth, PutKeepsSorts, PartsAreSorted, BlockStands, BlockIsFound, BlockIsInnermost, BlockIsSorted, FreeIsKnown, BareIsFirstOrder, FreeVarsAreListed};
 ghost use Rattle.soqe_form.specs.SameLaws.{SameHasTruth, SameIsSorted, SameIsReflexive, EqualIsSame, SameIsSymmetric, SameIsTransitive, SameHasFree, SameHasFreePreds, SameHasBlocks, SameIsFirstOrder};
 ghost use Rattle.soqe_form.specs.Samples.{sized, x, p, another, told_apart};
 
@@ -45,25 +44,6 @@ pub fn known_names()
 /// The free variables of a formula.
 pub fn free_variables()
     ensures listed { FreeVarsAreListed }
-{}
-
-/// What a formula says after its free variables were replaced by terms.
-pub fn substitutions()
-    ensures truth { SubHasTruth }
-    ensures sorted { SubIsSorted }
-{}
-
-/// What a tidy formula keeps of the formula, and that it stays as it is.
-pub fn tidy_formulas()
-    ensures same { TidyIsSame }
-    ensures truth { TidyKeepsTruth }
-    ensures sorts { TidyKeepsSorts }
-    ensures free { TidyKeepsFree }
-    ensures free_preds { TidyKeepsFreePreds }
-    ensures occurrences { TidyKeepsOccurrences }
-    ensures blocks { TidyKeepsBlocks }
-    ensures first_order { TidyKeepsOrder }
-    ensures again { TidyIsTidy }
 {}
 
 /// Formulas that are the same up to the numbers of their bound variables and bound predicates.

@@ -4,15 +4,12 @@
 //! Read `specs/Truth.antt` first: the truth of a formula in a world. `specs/Sorted.antt` says which formulas are well
 //! sorted, `specs/Alike.antt` when two have one truth, `specs/Same.antt` when they are equal up to the numbers of what is
 //! bound in them, `specs/Places.antt` where a block stands, and `specs/Pure.antt` what a result may contain.
-//! `specs/FreePreds.antt` says where a predicate is free, and `specs/PredRenaming.antt` what a bound predicate under another
-//! number is.
+//! `specs/FreePreds.antt` says where a predicate is free. Substitution and renaming are in soqe_subst, tidy formulas in soqe_tidy.
 #![tactic(auto)]
 
 mod blocks;
-mod bound_terms;
 mod counts;
 mod form;
-mod free_numbers;
 mod free_preds;
 mod free_variables;
 pub mod laws;
@@ -20,36 +17,22 @@ mod lists;
 pub mod make;
 mod marks;
 mod names;
-mod num_order;
-pub mod pred_laws;
-mod pred_renaming;
 mod put;
-mod recent;
-mod renaming;
 mod replace;
 mod sameness;
 mod sorting;
-mod substitution;
-mod tally;
 #[cfg(test)]
 mod tests;
-mod tidying;
-mod unkept;
-mod uses;
 
 pub use blocks::{BlockRef, find_block, first_block};
-pub use counts::Counts;
+pub use counts::{Counts, sum_of_counts};
 pub use form::{Block, Form, PVar, Pred, copy_boxed};
 pub use free_preds::{has_free_pred, is_hidden, is_same_pred, mark_preds};
 pub use free_variables::free_vars;
 pub use lists::{Forms, PVars};
 pub use marks::Marks;
 pub use names::{is_free, mark_form, mark_numbers, mark_term, mark_variables};
-pub use pred_renaming::rename_pred;
 pub use put::put_in;
-pub use renaming::{rename, rename_boxed};
 pub use replace::{put_beside, replace_at};
 pub use sameness::same;
 pub use sorting::well_sorted;
-pub use substitution::{subst, subst_all};
-pub use tidying::tidy;

@@ -2,7 +2,6 @@
 mod exchanged;
 mod predicates;
 mod sameness;
-mod tidying;
 mod variables;
 
 use crate::{

@@ -23,7 +23,7 @@ use Rattle.soqe_form.proofs.SameNames.{free-same, free_pred-same}
 use Rattle.soqe_form.proofs.SamePures.{blocks-same}
 use Rattle.soqe_norm.specs.Nnf.{is_nnf}
 use Rattle.soqe_norm.specs.Apart.{binders, IsLeast, IsChoice, AreChoices, taken_first, IsApart}
-use Rattle.soqe_norm.proofs.Replaced.{eqb-swap}
+use Rattle.soqe_form.proofs.Numbers.{eqb-swap}
 use Rattle.soqe_norm.proofs.Renumbered.{Distinct, Clear, span, same-renumbered, binders-renumbered, is_nnf-renumbered}
 
 choice-free : (taken standing : ℕ → Bool) (b n : ℕ) → IsChoice taken standing b n → taken n ≡ false
@@ -68,7 +68,7 @@ choices-unlike taken standing [] (n ∷ ns) c = absurd c
 choices-unlike taken standing (b ∷ bs) [] c = absurd c
 choices-unlike taken standing (b ∷ bs) (n ∷ ns) c = (
   list_any_none (λ m. eqb n m) ns (All-from_get_or (λ m. eqb n m ≡ false) ns 0
-      (λ k l. eqb-swap (slice_index ns k) n false (or_none_first (eqb (slice_index ns k) n) (taken (slice_index ns k)) (choices-free (λ m. eqb m n || taken m) standing bs ns c.1 k l)))),
+      (λ k l. eqb-swap (slice_index ns k) n (or_none_first (eqb (slice_index ns k) n) (taken (slice_index ns k)) (choices-free (λ m. eqb m n || taken m) standing bs ns c.1 k l)))),
   choices-unlike (λ m. eqb m n || taken m) standing bs ns c.1,
 )
 

@@ -9,7 +9,7 @@ use Rattle.soqe_form.specs.declared.form.Form.{Form}
 use Rattle.soqe_form.specs.Marks.{marked, Adds, IsLeastWithout}
 use Rattle.soqe_form.specs.FreeVars.{free_vars, is_among}
 use Rattle.soqe_form.proofs.FreeVariables.{is_among-free_vars}
-use Rattle.soqe_form.proofs.TidyNumbers.{least-one}
+use Rattle.soqe_form.proofs.Numbers.{least-one}
 use Rattle.soqe_norm.specs.Apart.{binders, renumbered, IsLeast, IsChoice, AreChoices, taken_first, IsApart}
 
 least-without : (p : ℕ → Bool) (n : ℕ) → IsLeast p n → IsLeastWithout (λ m. not (p m)) n

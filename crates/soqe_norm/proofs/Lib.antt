@@ -13,7 +13,6 @@ pub mod Prenexes
 pub mod PrenexNames
 pub mod Folded
 pub mod FoldedParts
-pub mod FoldedTidy
 pub mod Joins
 pub mod CaseLists
 pub mod CaseNames

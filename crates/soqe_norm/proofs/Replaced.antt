@@ -1,6 +1,6 @@
 -- A predicate replaced by a truth value: the truth of the result, and its free names.
 use Rattle.std.proofs.Common.{◌≡◌, ℕ, Bool, true, false, cond, eqb, not, ◌||◌, ◌&&◌, map, List, Option, Some, None, refl, sym, ◌∙◌, ap, ⊎_elim}
-use Rattle.std.proofs.lemmas.Bool.{eqb-true, eq-eqb, ne_eqb, eqb-false, or_cases, or_left, or_right}
+use Rattle.std.proofs.lemmas.Bool.{eqb-true, or_cases, or_left, or_right}
 use Rattle.soqe_term.specs.World.{World, with_var, with_bound}
 use Rattle.soqe_term.specs.Value.{values}
 use Rattle.soqe_term.specs.Finite.{every, some, every_list, some_list, product, entry}
@@ -15,11 +15,8 @@ use Rattle.soqe_form.specs.Truth.{truth, holds, alike}
 use Rattle.soqe_form.specs.Free.{free, free_pred, is_bound}
 use Rattle.soqe_form.specs.Places.{first_block, within, leftmost, innermost}
 use Rattle.soqe_form.specs.Constants.{constant}
+use Rattle.soqe_form.proofs.Numbers.{eqb-swap}
 use Rattle.soqe_norm.specs.Valued.{valued}
-
-pub eqb-swap : (m n : ℕ) (b : Bool) → eqb m n ≡ b → eqb n m ≡ b
-eqb-swap m n true e = eq-eqb n m (sym (eqb-true m n e))
-eqb-swap m n false e = ne_eqb n m (λ q. eqb-false m n e (sym q))
 
 module _ (m : ℕ) (v : Bool) where
   abbrev table : List ℕ → Bool
@@ -37,8 +34,8 @@ module _ (m : ℕ) (v : Bool) where
   atom-value w (Bound n) ts = choose (eqb m n) refl
     where
       choose : (b : Bool) → eqb m n ≡ b → truth w (cond b (constant v) (Atom (Bound n) ts)) ≡ cond (eqb n m) table (w.bound n) (values w ts)
-      choose true e = constant-true w ∙ (λ i. cond (sym (eqb-swap m n true e) i) table (w.bound n) (values w ts))
-      choose false e = λ i. cond (sym (eqb-swap m n false e) i) table (w.bound n) (values w ts)
+      choose true e = constant-true w ∙ (λ i. cond (sym (eqb-swap m n e) i) table (w.bound n) (values w ts))
+      choose false e = λ i. cond (sym (eqb-swap m n e) i) table (w.bound n) (values w ts)
 
   abbrev pub Replaced : World → Form → Type 0
   Replaced w f = truth w (valued m v f) ≡ truth (with_bound w m table) f

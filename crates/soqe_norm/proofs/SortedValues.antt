@@ -14,7 +14,7 @@ use Rattle.soqe_form.specs.Free.{is_bound}
 use Rattle.soqe_form.specs.Sorted.{sorted}
 use Rattle.soqe_form.specs.Constants.{constant}
 use Rattle.soqe_norm.specs.Valued.{valued}
-use Rattle.soqe_norm.proofs.Replaced.{eqb-swap}
+use Rattle.soqe_form.proofs.Numbers.{eqb-swap}
 
 module _ (m : ℕ) (v : Bool) (kinds : List ℕ) where
   constant-sorted : (e : Sorting) → sorted e (constant v) ≡ true
@@ -35,7 +35,7 @@ module _ (m : ℕ) (v : Bool) (kinds : List ℕ) where
       choose true d = constant-sorted e
       choose false d =
           sym (terms-known e ts (e.bound n))
-          ∙ (λ i. with_sorts (λ sorts. sorted_terms (over_bound e m kinds) ts sorts) (cond (sym (eqb-swap m n false d) i) (Some kinds) (e.bound n)))
+          ∙ (λ i. with_sorts (λ sorts. sorted_terms (over_bound e m kinds) ts sorts) (cond (sym (eqb-swap m n d) i) (Some kinds) (e.bound n)))
           ∙ h
 
   abbrev pub Stays : Sorting → Form → Type 0

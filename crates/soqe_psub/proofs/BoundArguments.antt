@@ -10,8 +10,8 @@ use Rattle.soqe_term.specs.declared.term.Terms.{Terms, Nil, Cons}
 use Rattle.soqe_term.specs.Boxes.{boxes as term_boxes}
 use Rattle.soqe_term.specs.Bindings.{bound_term}
 use Rattle.soqe_term.proofs.Choices.{bool_cases}
-use Rattle.soqe_form.specs.Substitution.{visible, without}
-use Rattle.soqe_form.proofs.Binders.{visible-visible, visible-all}
+use Rattle.soqe_subst.specs.Substitution.{visible, without}
+use Rattle.soqe_subst.proofs.Binders.{visible-visible, visible-all}
 use Rattle.soqe_psub.specs.PredSubst.{arguments}
 use Rattle.soqe_psub.specs.Replaces.{is_known, with_first}
 

@@ -9,11 +9,11 @@ use Rattle.soqe_form.specs.Free.{free}
 use Rattle.soqe_form.specs.FreeVars.{free_vars, is_among}
 use Rattle.soqe_form.specs.Marks.{marked, Adds, IsLeastWithout}
 use Rattle.soqe_form.specs.Mentions.{mentions, form_above}
-use Rattle.soqe_form.specs.PredRenaming.{mentions_pred, preds_above}
-use Rattle.soqe_form.proofs.FirstUnmarked.{first-unmarked}
+use Rattle.soqe_form.specs.MentionsPreds.{mentions_pred, preds_above}
+use Rattle.soqe_form.proofs.Numbers.{first-unmarked}
 use Rattle.soqe_form.proofs.FreeVariables.{is_among-free_vars}
-use Rattle.soqe_form.proofs.PredRenamings.{mentions_pred-above}
-use Rattle.soqe_form.proofs.Renamings.{mentions-above}
+use Rattle.soqe_subst.proofs.PredRenamings.{mentions_pred-above}
+use Rattle.soqe_subst.proofs.Renamings.{mentions-above}
 use Rattle.soqe_psub.specs.PredSubst.{vars_above, fresh_var, fresh_pred}
 use Rattle.soqe_psub.specs.Replaces.{is_own}
 use Rattle.soqe_psub.proofs.NewNumbers.{is_among-above}

@@ -8,9 +8,9 @@ use Rattle.soqe_form.specs.declared.form.PVar.{PVar}
 use Rattle.soqe_form.specs.declared.form.Form.{Form}
 use Rattle.soqe_form.specs.FreeVars.{is_among}
 use Rattle.soqe_form.specs.Mentions.{mentions, form_above}
-use Rattle.soqe_form.specs.PredRenaming.{mentions_pred, preds_above}
-use Rattle.soqe_form.proofs.PredRenamings.{mentions_pred-above}
-use Rattle.soqe_form.proofs.Renamings.{mentions-above}
+use Rattle.soqe_form.specs.MentionsPreds.{mentions_pred, preds_above}
+use Rattle.soqe_subst.proofs.PredRenamings.{mentions_pred-above}
+use Rattle.soqe_subst.proofs.Renamings.{mentions-above}
 use Rattle.soqe_psub.specs.PredSubst.{vars_above, lacks_var, fresh_var, lacks_pred, fresh_pred}
 
 from_not : (b : Bool) → not b ≡ true → b ≡ false

@@ -14,14 +14,14 @@ use Rattle.soqe_form.specs.Free.{free_pred}
 use Rattle.soqe_form.specs.FreePreds.{count, same_pred, hides, has_free, has_atom, over_pred}
 use Rattle.soqe_form.specs.Mentions.{depth}
 use Rattle.soqe_form.specs.Places.{has_blocks}
-use Rattle.soqe_form.specs.PredRenaming.{renamed_pred, renumbered}
+use Rattle.soqe_subst.specs.PredRenaming.{renamed_pred, renumbered}
 use Rattle.soqe_form.specs.Sorted.{sorted}
-use Rattle.soqe_form.specs.Substitution.{renamed, numbered, sub}
-use Rattle.soqe_form.proofs.BlockCounts.{has_blocks-renamed, has_blocks-sub}
-use Rattle.soqe_form.proofs.FreeAtoms.{has_atom-any, has_atom-none, has_atom-lacks, has_atom-renamed, has_atom-renamed_pred, has_atom-sub, sorted-counts}
-use Rattle.soqe_form.proofs.PredRenamings.{depth-renamed_pred, hides-none}
-use Rattle.soqe_form.proofs.PredSorts.{pred_sorts-over_pred}
-use Rattle.soqe_form.proofs.Renamings.{depth-renamed, depth-positive}
+use Rattle.soqe_subst.specs.Substitution.{renamed, numbered, sub}
+use Rattle.soqe_subst.proofs.SubstitutedBlocks.{has_blocks-renamed, has_blocks-sub}
+use Rattle.soqe_subst.proofs.FreeAtoms.{has_atom-any, has_atom-none, has_atom-lacks, has_atom-renamed, has_atom-renamed_pred, has_atom-sub, sorted-counts}
+use Rattle.soqe_subst.proofs.PredRenamings.{depth-renamed_pred, hides-none}
+use Rattle.soqe_subst.proofs.PredSorts.{pred_sorts-over_pred}
+use Rattle.soqe_subst.proofs.Renamings.{depth-renamed, depth-positive}
 use Rattle.soqe_psub.specs.PredSubst.{arguments, catches_var, fresh_var, new_body, catches_pred, fresh_pred, new_pred_binder, new_pred_body, atom_sub, pred_sub}
 use Rattle.soqe_psub.specs.PredSubstLaws.{param_sorts}
 use Rattle.soqe_psub.proofs.NewNumbers.{fresh_pred-is}

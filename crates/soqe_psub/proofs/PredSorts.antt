@@ -23,16 +23,16 @@ use Rattle.soqe_form.specs.Free.{free, free_pred}
 use Rattle.soqe_form.specs.FreeVars.{is_among}
 use Rattle.soqe_form.specs.FreePreds.{count, same_pred, hides, has_free, over_pred}
 use Rattle.soqe_form.specs.Mentions.{depth}
-use Rattle.soqe_form.specs.PredRenaming.{renamed_pred, renumbered}
+use Rattle.soqe_subst.specs.PredRenaming.{renamed_pred, renumbered}
 use Rattle.soqe_form.specs.Sorted.{sorted, pred_sorts}
-use Rattle.soqe_form.specs.Substitution.{visible, without, renamed, numbered, sub}
-use Rattle.soqe_form.proofs.FreeAtoms.{has_free-renamed, has_free-renamed_pred}
+use Rattle.soqe_subst.specs.Substitution.{visible, without, renamed, numbered, sub}
+use Rattle.soqe_subst.proofs.FreeAtoms.{has_free-renamed, has_free-renamed_pred}
 use Rattle.soqe_form.proofs.FreePreds.{same_pred-true}
-use Rattle.soqe_form.proofs.PredRenamings.{depth-renamed_pred, free_pred-mentions, hides-none}
-use Rattle.soqe_form.proofs.PredSorts.{pred_sorts-over_pred, pred_sorts-other, over_pred-commutes, over_pred-hidden, sorted_term-over_pred, sorted_terms-over_pred, sorted-other_number}
-use Rattle.soqe_form.proofs.Renamings.{depth-renamed, depth-positive, free-mentions}
+use Rattle.soqe_subst.proofs.PredRenamings.{depth-renamed_pred, free_pred-mentions, hides-none}
+use Rattle.soqe_subst.proofs.PredSorts.{pred_sorts-over_pred, pred_sorts-other, over_pred-commutes, over_pred-hidden, sorted_term-over_pred, sorted_terms-over_pred, sorted-other_number}
+use Rattle.soqe_subst.proofs.Renamings.{depth-renamed, depth-positive, free-mentions}
 use Rattle.soqe_form.proofs.Sortings.{sorted-agree}
-use Rattle.soqe_form.proofs.SubstitutedSorts.{sorted-renamed, sorted-sub_binding}
+use Rattle.soqe_subst.proofs.SubstitutedSorts.{sorted-renamed, sorted-sub_binding}
 use Rattle.soqe_psub.specs.PredSubst.{arguments, catches_var, fresh_var, new_binder, new_body, catches_pred, fresh_pred, new_pred_binder, new_pred_body, atom_sub, pred_sub}
 use Rattle.soqe_psub.specs.PredSubstLaws.{with_params, over_params, param_sorts}
 use Rattle.soqe_psub.proofs.NewNumbers.{IsNew, IsNewPred, fresh_var-is, fresh_pred-is}

@@ -10,10 +10,10 @@ use Rattle.soqe_form.specs.Free.{free, free_pred}
 use Rattle.soqe_form.specs.FreePreds.{count, hides, has_free}
 use Rattle.soqe_form.specs.FreeVars.{is_among}
 use Rattle.soqe_form.specs.Mentions.{depth}
-use Rattle.soqe_form.specs.PredRenaming.{renamed_pred, renumbered}
-use Rattle.soqe_form.specs.Substitution.{renamed, numbered, sub}
-use Rattle.soqe_form.proofs.PredRenamings.{depth-renamed_pred}
-use Rattle.soqe_form.proofs.Renamings.{depth-renamed, depth-positive}
+use Rattle.soqe_subst.specs.PredRenaming.{renamed_pred, renumbered}
+use Rattle.soqe_subst.specs.Substitution.{renamed, numbered, sub}
+use Rattle.soqe_subst.proofs.PredRenamings.{depth-renamed_pred}
+use Rattle.soqe_subst.proofs.Renamings.{depth-renamed, depth-positive}
 use Rattle.soqe_psub.specs.PredSubst.{arguments, catches_var, fresh_var, new_binder, new_body, catches_pred, fresh_pred, new_pred_binder, new_pred_body, pred_sub, IsPredSub}
 
 and_none : (a b : Bool) → b ≡ false → (a && b) ≡ false

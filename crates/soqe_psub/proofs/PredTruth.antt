@@ -22,14 +22,15 @@ use Rattle.soqe_form.specs.Free.{free, free_pred}
 use Rattle.soqe_form.specs.FreeVars.{is_among}
 use Rattle.soqe_form.specs.FreePreds.{count, same_pred, hides, has_free, with_pred}
 use Rattle.soqe_form.specs.Mentions.{mentions, form_above, depth}
-use Rattle.soqe_form.specs.PredRenaming.{renamed_pred, renumbered, mentions_pred, preds_above}
-use Rattle.soqe_form.specs.Substitution.{renamed, numbered, sub}
+use Rattle.soqe_subst.specs.PredRenaming.{renamed_pred, renumbered}
+use Rattle.soqe_form.specs.MentionsPreds.{mentions_pred, preds_above}
+use Rattle.soqe_subst.specs.Substitution.{renamed, numbered, sub}
 use Rattle.soqe_form.proofs.Agree.{truth-agree}
-use Rattle.soqe_form.proofs.Binders.{assigned-without}
+use Rattle.soqe_subst.proofs.Binders.{assigned-without}
 use Rattle.soqe_form.proofs.FreePreds.{same_pred-true, holds-with_pred, holds-other, holds-beside, with_pred-commutes, values-with_pred, value-with_pred, truth-unchanged, truth-same_table}
-use Rattle.soqe_form.proofs.PredRenamings.{truth-other_number, depth-renamed_pred, free_pred-mentions, hides-none, mentions_pred-above}
-use Rattle.soqe_form.proofs.Renamings.{truth-renamed, depth-renamed, depth-positive, free-mentions, mentions-above}
-use Rattle.soqe_form.proofs.Substitutions.{truth-sub, same_sort_of}
+use Rattle.soqe_subst.proofs.PredRenamings.{truth-other_number, depth-renamed_pred, free_pred-mentions, hides-none, mentions_pred-above}
+use Rattle.soqe_subst.proofs.Renamings.{truth-renamed, depth-renamed, depth-positive, free-mentions, mentions-above}
+use Rattle.soqe_subst.proofs.Substitutions.{truth-sub, same_sort_of}
 use Rattle.soqe_psub.specs.PredSubst.{arguments, catches_var, vars_above, lacks_var, fresh_var, new_binder, new_body, catches_pred, lacks_pred, fresh_pred, new_pred_binder, new_pred_body, atom_sub, pred_sub}
 use Rattle.soqe_psub.specs.PredSubstLaws.{with_args, table}
 use Rattle.soqe_psub.proofs.NewNumbers.{IsNew, fresh_var-is, IsNewPred, fresh_pred-is}

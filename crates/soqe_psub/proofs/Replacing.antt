@@ -9,11 +9,11 @@ use Rattle.soqe_form.specs.declared.form.Form.{Form, True, False, Equal, Atom, N
 use Rattle.soqe_form.specs.Boxes.{boxes}
 use Rattle.soqe_form.specs.FreePreds.{hides}
 use Rattle.soqe_form.specs.Mentions.{depth}
-use Rattle.soqe_form.specs.PredRenaming.{renamed_pred, renumbered}
-use Rattle.soqe_form.specs.Substitution.{renamed, numbered}
-use Rattle.soqe_form.proofs.PredRenamings.{depth-renamed_pred}
-use Rattle.soqe_form.proofs.Renamings.{depth-renamed}
-use Rattle.soqe_form.proofs.Substituting.{fuel}
+use Rattle.soqe_subst.specs.PredRenaming.{renamed_pred, renumbered}
+use Rattle.soqe_subst.specs.Substitution.{renamed, numbered}
+use Rattle.soqe_subst.proofs.PredRenamings.{depth-renamed_pred}
+use Rattle.soqe_subst.proofs.Renamings.{depth-renamed}
+use Rattle.soqe_subst.proofs.Substituting.{fuel}
 use Rattle.soqe_psub.specs.PredSubst.{IsPredSub, pred_sub, atom_sub, catches_var, fresh_var, catches_pred, fresh_pred, new_pred_binder, new_pred_body}
 use Rattle.soqe_psub.specs.Replaces.{ReplacesBelow, ReplacesBelowPred, ReplacesUnlessHidden}
 

@@ -11,8 +11,9 @@ use Rattle.soqe_form.specs.Free.{free, free_pred}
 use Rattle.soqe_form.specs.FreeVars.{is_among}
 use Rattle.soqe_form.specs.FreePreds.{same_pred, hides, has_free, count}
 use Rattle.soqe_form.specs.Mentions.{mentions, form_above, depth}
-use Rattle.soqe_form.specs.PredRenaming.{renamed_pred, renumbered, mentions_pred, preds_above}
-use Rattle.soqe_form.specs.Substitution.{without, renamed, numbered, sub}
+use Rattle.soqe_subst.specs.PredRenaming.{renamed_pred, renumbered}
+use Rattle.soqe_form.specs.MentionsPreds.{mentions_pred, preds_above}
+use Rattle.soqe_subst.specs.Substitution.{without, renamed, numbered, sub}
 
 -- each parameter with its argument; of two parameters with one number the first counts
 abbrev pub arguments : List Var → Terms → List Bound

@@ -2,7 +2,7 @@
 #![tactic(auto, unfolding(soqe_term::specs::Boxes::boxes))]
 
 ghost use Rattle.std.specs.Prelude.{◌≡◌, ◌++◌, eqb, drop, IfOk, OnOk};
-ghost use Rattle.soqe_form.specs.Substitution.{visible};
+ghost use Rattle.soqe_subst.specs.Substitution.{visible};
 ghost use Rattle.soqe_form.specs.FreePreds.{count};
 ghost use Rattle.soqe_psub.specs.PredSubst.{arguments};
 ghost use Rattle.soqe_psub.specs.Replaces.{is_known, with_first};

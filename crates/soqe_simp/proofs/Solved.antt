@@ -21,7 +21,7 @@ use Rattle.soqe_form.specs.Truth.{truth}
 use Rattle.soqe_form.specs.Free.{free as free_in, free_pred as free_pred_in}
 use Rattle.soqe_form.specs.Sorted.{sorted}
 use Rattle.soqe_form.specs.Places.{count_blocks}
-use Rattle.soqe_form.proofs.Renamings.{eqb-swap}
+use Rattle.soqe_form.proofs.Numbers.{eqb-swap}
 use Rattle.soqe_form.proofs.SameCases.{never}
 use Rattle.soqe_simp.specs.declared.conjuncts.Solved.{Solved}
 use Rattle.soqe_simp.specs.Conjuncts.{around, occurs_one, defines}

@@ -18,11 +18,11 @@ use Rattle.soqe_form.specs.Boxes.{boxes}
 use Rattle.soqe_form.specs.Truth.{truth}
 use Rattle.soqe_form.specs.Free.{free}
 use Rattle.soqe_form.specs.Sorted.{sorted}
-use Rattle.soqe_form.specs.IsSub.{single}
+use Rattle.soqe_subst.specs.IsSub.{single}
 use Rattle.soqe_form.specs.Mentions.{depth}
-use Rattle.soqe_form.proofs.BlockCounts.{count-sub}
-use Rattle.soqe_form.proofs.Substitutions.{truth-sub}
-use Rattle.soqe_form.proofs.SubstitutedSorts.{sorted-sub_binding, has_own_sort, is_sorted_single}
+use Rattle.soqe_subst.proofs.SubstitutedBlocks.{count-sub}
+use Rattle.soqe_subst.proofs.Substitutions.{truth-sub}
+use Rattle.soqe_subst.proofs.SubstitutedSorts.{sorted-sub_binding, has_own_sort, is_sorted_single}
 use Rattle.soqe_simp.specs.declared.conjuncts.Solved.{Solved}
 use Rattle.soqe_simp.specs.Conjuncts.{around, defines, solution, solved, below_alls, solved_not, solved_imp}
 use Rattle.soqe_simp.specs.Shapes.{given}
@@ -33,7 +33,7 @@ use Rattle.soqe_simp.proofs.Options.{mapped, found_first}
 use Rattle.soqe_simp.proofs.Points.{some-point, every-point}
 use Rattle.soqe_simp.proofs.Vacuous.{beside}
 use Rattle.soqe_simp.proofs.Ignoring.{weight-sub, free_pred-sub}
-use Rattle.soqe_form.proofs.SubstitutedNames.{free-sub}
+use Rattle.soqe_subst.proofs.SubstitutedNames.{free-sub}
 use Rattle.soqe_simp.proofs.Solved.{Says, equation-says, turned-says, left-says, right-says, condition-says, negation-says, some-says, every-says, below_shown, sorted_term-unused}
 
 -- ---- what is found says what x is

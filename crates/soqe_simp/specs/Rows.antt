@@ -6,10 +6,10 @@ use Rattle.soqe_term.specs.declared.term.Var.{Var}
 use Rattle.soqe_term.specs.Equal.{equal_terms}
 use Rattle.soqe_form.specs.declared.form.Form.{Form, True, False, Not, And, Imp}
 use Rattle.soqe_form.specs.Free.{free, free_pred}
-use Rattle.soqe_form.specs.IsSub.{single}
+use Rattle.soqe_subst.specs.IsSub.{single}
 use Rattle.soqe_form.specs.Mentions.{depth}
 use Rattle.soqe_form.specs.Same.{same, is_true, is_false, is_not}
-use Rattle.soqe_form.specs.Substitution.{sub}
+use Rattle.soqe_subst.specs.Substitution.{sub}
 use Rattle.soqe_simp.specs.declared.conjuncts.Solved.{Solved}
 use Rattle.soqe_simp.specs.Shapes.{given, on_equal, on_not, on_and, on_or, on_imp, on_iff, on_all, on_ex, on_quantifier, on_block}
 use Rattle.soqe_simp.specs.Conjuncts.{solved, below_alls, solved_not, solved_imp}

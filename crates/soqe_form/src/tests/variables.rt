@@ -1,11 +1,9 @@
-//! Free variables, sorting and substitution on formulas written by hand.
+//! Free variables, marks and sorts of formulas written by hand.
 ghost use Rattle.std.specs.Prelude.{◌≡◌};
 
-use super::{equation, sides};
-use crate::{
-    Form, Marks, PVars, free_vars, make, mark_numbers, mark_variables, subst, well_sorted,
-};
-use soqe_term::{Mem, Signature, SkolemSigs, Term, Var, Vars};
+use super::equation;
+use crate::{Form, Marks, PVars, free_vars, make, mark_numbers, mark_variables, well_sorted};
+use soqe_term::{Mem, Signature, SkolemSigs, Var, Vars};
 use sqlite_items::Boxed;
 use std::alloc::Global;
 use std::test::Fail;
@@ -21,17 +19,6 @@ fn with_binder(alloc: Global) -> Mem<Boxed<Form>> {
     let left = equation(alloc, 1, 2)?;
     let right = make::for_all(alloc, var(1), equation(alloc, 1, 3)?)?;
     make::conjunction(alloc, left, right)
-}
-
-/// The number of a quantified equation's binder and of its two variables.
-fn numbers(form: &Form) -> Option<(u64, u64, u64)> {
-    match form {
-        Form::All(x, body) => {
-            let (y, z) = sides(body.get())?;
-            Some((x.num, y, z))
-        }
-        _ => None,
-    }
 }
 
 #[test]
@@ -50,17 +37,6 @@ fn the_numbers_of_lists_are_marked(rt: HostRuntime) -> Result<(), Fail> {
     mark_variables(&[var(1), var(5)], &mut marks)?;
     assert!(rt; marks.has(3) && marks.has(5) && !marks.has(4));
     assert!(rt; marks.least_unmarked() == 2);
-    Ok(())
-}
-
-#[test]
-fn a_binder_is_renamed_where_it_would_catch(rt: HostRuntime) -> Result<(), Fail> {
-    let alloc = rt.alloc();
-    let form = make::for_all(alloc, var(1), equation(alloc, 0, 1)?)?;
-    let renamed = subst(alloc, form.get(), var(0), &Term::Var(var(1)))?;
-    assert!(rt; numbers(renamed.get()) == Some((2, 1, 2)));
-    let kept = subst(alloc, form.get(), var(0), &Term::Var(var(3)))?;
-    assert!(rt; numbers(kept.get()) == Some((1, 3, 1)));
     Ok(())
 }
 

@@ -6,8 +6,8 @@ use Rattle.soqe_form.specs.Free.{free}
 use Rattle.soqe_form.specs.FreeVars.{is_among}
 use Rattle.soqe_form.specs.Marks.{marked}
 use Rattle.soqe_form.specs.Mentions.{depth}
-use Rattle.soqe_form.specs.Substitution.{sub}
-use Rattle.soqe_form.specs.Tidy.{tidy}
+use Rattle.soqe_subst.specs.Substitution.{sub}
+use Rattle.soqe_tidy.specs.Tidy.{tidy}
 use Rattle.soqe_ack.specs.Acked.{AreParameters}
 use Rattle.soqe_ack.specs.Tries.{by_vars}
 use Rattle.soqe_dls.proofs.NewParameters.{parameters-many}

@@ -1,5 +1,5 @@
 use Rattle.std.proofs.Common.{◌∙◌, length, sym, ap}
-use Rattle.soqe_form.specs.Tidy.{tidy}
+use Rattle.soqe_tidy.specs.Tidy.{tidy}
 use Rattle.soqe_dls.proofs.FoldedForms.{tidy-case}
 use Rattle.soqe_dls.proofs.tidy_case.tidy_case.Goals as goal
 

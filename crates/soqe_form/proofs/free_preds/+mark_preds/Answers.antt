@@ -1,7 +1,7 @@
 use Rattle.std.proofs.Common.{eqb, false, ◌||◌, ◌∙◌, ap, sym, ⊎_elim}
 use Rattle.soqe_form.specs.Boxes.{boxes}
 use Rattle.soqe_form.specs.Free.{is_bound}
-use Rattle.soqe_form.specs.PredRenaming.{mentions_pred}
+use Rattle.soqe_form.specs.MentionsPreds.{mentions_pred}
 use Rattle.soqe_form.proofs.Marked.{adds-none, adds-one, adds-same, adds-two}
 use Rattle.soqe_form.proofs.free_preds.+mark_preds.Goals as goal
 

@@ -1,6 +1,6 @@
 use Rattle.std.proofs.Common.{◌∙◌, ap, sym, drop, ◌+◌, ◌++◌}
 use Rattle.std.proofs.lemmas.Bool.{ltb-true}
-use Rattle.soqe_form.specs.Substitution.{visible}
+use Rattle.soqe_subst.specs.Substitution.{visible}
 use Rattle.soqe_psub.specs.PredSubst.{arguments}
 use Rattle.soqe_psub.specs.Replaces.{is_known, with_first}
 use Rattle.soqe_psub.proofs.BoundArguments.{bind-nil, bind-cons}

@@ -1,5 +1,5 @@
 use Rattle.std.proofs.Common.{◌∙◌, ap, ◌++◌}
-use Rattle.soqe_form.specs.Substitution.{visible}
+use Rattle.soqe_subst.specs.Substitution.{visible}
 use Rattle.soqe_psub.specs.PredSubst.{arguments}
 use Rattle.soqe_psub.specs.Replaces.{is_known}
 use Rattle.soqe_psub.proofs.BoundArguments.{bind-all}

@@ -4,10 +4,10 @@ use Rattle.soqe_form.specs.declared.form.PVar.{PVar}
 use Rattle.soqe_form.specs.declared.form.Pred.{Pred}
 use Rattle.soqe_form.specs.declared.form.Form.{Form}
 use Rattle.soqe_form.specs.Mentions.{depth}
-use Rattle.soqe_form.specs.Substitution.{renamed, numbered}
-use Rattle.soqe_form.specs.PredRenaming.{renamed_pred}
-use Rattle.soqe_form.proofs.Renamings.{depth-renamed}
-use Rattle.soqe_form.proofs.PredRenamings.{depth-renamed_pred}
+use Rattle.soqe_subst.specs.Substitution.{renamed, numbered}
+use Rattle.soqe_subst.specs.PredRenaming.{renamed_pred}
+use Rattle.soqe_subst.proofs.Renamings.{depth-renamed}
+use Rattle.soqe_subst.proofs.PredRenamings.{depth-renamed_pred}
 use Rattle.soqe_psub.specs.PredSubst.{IsPredSub, catches_var, fresh_var, catches_pred, fresh_pred}
 use Rattle.soqe_psub.proofs.Replacing.{below-renamed, below_pred-renamed}
 use Rattle.soqe_psub.proofs.pred_substitution.+replace.Goals as goal

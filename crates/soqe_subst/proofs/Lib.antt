@@ -1,0 +1,12 @@
+pub mod Binders
+pub mod Renamings
+pub mod Substitutions
+pub mod SubstitutedSorts
+pub mod SubstitutedNames
+pub mod SubstitutedBlocks
+pub mod Substituting
+pub mod SubLaws
+pub mod Visibles
+pub mod PredRenamings
+pub mod PredSorts
+pub mod FreeAtoms

@@ -1,0 +1,5 @@
+pub mod Substitution
+pub mod IsSub
+pub mod Substitutes
+pub mod PredRenaming
+pub mod Laws

@@ -1,0 +1,12 @@
+pub mod FirstUnkept
+pub mod Ordered
+pub mod Tallied
+pub mod NumbersListed
+pub mod UsesCounted
+pub mod TidyNumbers
+pub mod TidyBinders
+pub mod Tidied
+pub mod TidiedAgain
+pub mod TidiedBlocks
+pub mod SameRenamed
+pub mod SameSubs
