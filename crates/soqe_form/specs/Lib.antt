@@ -1,5 +1,6 @@
 pub mod Boxes
 pub mod Constants
+pub mod Quantifiers
 pub mod Truth
 pub mod Free
 pub mod Marks

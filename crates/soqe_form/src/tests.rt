@@ -5,7 +5,8 @@ mod sameness;
 mod variables;
 
 use crate::{
-    Block, Form, Forms, PVar, Pred, copy_boxed, find_block, first_block, make, replace_at,
+    Block, Form, Forms, PVar, Pred, Quantifier, copy_boxed, find_block, first_block, make,
+    quantified, replace_at, sum_of_counts,
 };
 use soqe_term::{Mem, Nums, Sorts, Term, Terms, Var};
 use sqlite_items::Boxed;
@@ -261,5 +262,27 @@ fn a_list_of_formulas_is_taken_apart(rt: HostRuntime) -> Result<(), Fail> {
     let last = items.pop();
     assert!(rt; is_due(alloc, &last, Some(b"|&FXTXP"))?);
     assert!(rt; items.len() == 1);
+    Ok(())
+}
+
+#[test]
+fn a_quantifier_stands_in_front(rt: HostRuntime) -> Result<(), Fail> {
+    let alloc = rt.alloc();
+    let cases: [(bool, &[u8]); 2] = [(true, b"AT"), (false, b"ET")];
+    for (universal, text) in cases {
+        let quantifier = Quantifier {
+            universal,
+            variable: Var { num: 1, sort: 0 },
+        };
+        let form = quantified(alloc, quantifier, truth(alloc)?)?;
+        assert!(rt; is_spelled(alloc, &form, text)?);
+    }
+    Ok(())
+}
+
+#[test]
+fn a_sum_of_counts_fits_or_fails(rt: HostRuntime) -> Result<(), Fail> {
+    assert!(rt; sum_of_counts(2, 3)? == 5);
+    assert!(rt; sum_of_counts(u64::MAX, 1).is_err());
     Ok(())
 }

@@ -14,9 +14,9 @@ use Rattle.soqe_form.specs.Boxes.{boxes}
 use Rattle.soqe_form.specs.Free.{free}
 use Rattle.soqe_form.specs.FreePreds.{has_free}
 use Rattle.soqe_norm.specs.declared.case_list.Case.{Case}
-use Rattle.soqe_norm.specs.declared.prenex.Quantifier.{Quantifier}
+use Rattle.soqe_form.specs.declared.quantifiers.Quantifier.{Quantifier}
 use Rattle.soqe_norm.specs.Apart.{binders}
-use Rattle.soqe_norm.specs.Prenex.{quantify}
+use Rattle.soqe_form.specs.Quantifiers.{quantify}
 use Rattle.soqe_norm.specs.Folds.{all_of, exists_in}
 use Rattle.soqe_norm.specs.Cases.{whole, both, pairings, below, cases_of, form_of}
 use Rattle.soqe_norm.proofs.Quantifieds.{binds, Lack}

@@ -11,8 +11,9 @@ use Rattle.soqe_form.specs.Sorted.{sorted}
 use Rattle.soqe_form.specs.Places.{has_blocks}
 use Rattle.soqe_form.proofs.Sortings.{sorted-unused}
 use Rattle.soqe_norm.specs.Apart.{binders}
-use Rattle.soqe_norm.specs.declared.prenex.Quantifier.{Quantifier}
-use Rattle.soqe_norm.specs.Prenex.{prefix, matrix, quantify, pulled, IsPrenexed}
+use Rattle.soqe_form.specs.declared.quantifiers.Quantifier.{Quantifier}
+use Rattle.soqe_norm.specs.Prenex.{prefix, matrix, pulled, IsPrenexed}
+use Rattle.soqe_form.specs.Quantifiers.{quantify}
 use Rattle.soqe_norm.proofs.Quantifieds.{binds, Lack}
 use Rattle.soqe_norm.proofs.Aparts.{Unlike, sorted-apart, free-apart, free_pred-apart, has_blocks-apart, unlike-apart, bound-free-apart}
 use Rattle.soqe_norm.proofs.Prenexes.{Closed, closed-under, Sides, sides}

@@ -13,8 +13,9 @@ use Rattle.soqe_form.specs.Free.{free}
 use Rattle.soqe_form.specs.Places.{has_blocks}
 use Rattle.soqe_norm.specs.Nnf.{is_atomic, is_nnf}
 use Rattle.soqe_norm.specs.Apart.{binders}
-use Rattle.soqe_norm.specs.declared.prenex.Quantifier.{Quantifier}
-use Rattle.soqe_norm.specs.Prenex.{prefix, matrix, quantify, pulled, is_open, is_prenex, IsPrenexed}
+use Rattle.soqe_form.specs.declared.quantifiers.Quantifier.{Quantifier}
+use Rattle.soqe_norm.specs.Prenex.{prefix, matrix, pulled, is_open, is_prenex, IsPrenexed}
+use Rattle.soqe_form.specs.Quantifiers.{quantify}
 use Rattle.soqe_norm.proofs.Quantifieds.{NoneEmpty, Keeps, and-keeps, or-keeps, and-keeps_right, or-keeps_right, quantified, truth-quantify, binds, Lack, both-drawn}
 use Rattle.soqe_norm.proofs.Aparts.{Unlike, truth-apart, is_nnf-apart, has_blocks-apart, unlike-apart, bound-free-apart}
 

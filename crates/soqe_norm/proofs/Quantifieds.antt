@@ -12,8 +12,8 @@ use Rattle.soqe_form.specs.Boxes.{boxes}
 use Rattle.soqe_form.specs.Truth.{truth}
 use Rattle.soqe_form.specs.Free.{free}
 use Rattle.soqe_form.proofs.Agree.{truth-unused}
-use Rattle.soqe_norm.specs.declared.prenex.Quantifier.{Quantifier}
-use Rattle.soqe_norm.specs.Prenex.{quantify}
+use Rattle.soqe_form.specs.declared.quantifiers.Quantifier.{Quantifier}
+use Rattle.soqe_form.specs.Quantifiers.{quantify}
 
 -- no sort is empty
 abbrev pub NoneEmpty : World → Type 0

@@ -1,7 +1,8 @@
 -- A formula whose quantifiers of variables stand in front.
-use Rattle.std.specs.Prelude.{◌≡◌, Bool, true, false, cond, ◌&&◌, List, [], ◌∷◌, ◌++◌}
+use Rattle.std.specs.Prelude.{◌≡◌, Bool, true, false, ◌&&◌, List, [], ◌∷◌, ◌++◌}
 use Rattle.soqe_form.specs.declared.form.Form.{Form, True, False, Equal, Atom, Not, Not', And, And', Or, Or', Imp, Imp', Iff, Iff', All, All', Ex, Ex', All2, All2', Ex2, Ex2', end_of-Form as end, more_of-Form as one}
-use Rattle.soqe_norm.specs.declared.prenex.Quantifier.{Quantifier}
+use Rattle.soqe_form.specs.declared.quantifiers.Quantifier.{Quantifier}
+use Rattle.soqe_form.specs.Quantifiers.{quantify}
 use Rattle.soqe_norm.specs.Apart.{IsApart}
 
 -- the quantifiers that no negation, `->`, `<->` or quantifier of a predicate stands above, from left to right, an outer one
@@ -36,11 +37,6 @@ matrix (All' x _ (one f end)) = matrix f
 matrix (Ex' x _ (one f end)) = matrix f
 matrix (All2' p _ (one f end)) = All2 p f
 matrix (Ex2' p _ (one f end)) = Ex2 p f
-
--- quantifiers in front of a formula
-abbrev pub quantify : List Quantifier → Form → Form
-quantify [] f = f
-quantify (q ∷ qs) f = cond q.universal (All q.variable (quantify qs f)) (Ex q.variable (quantify qs f))
 
 -- the quantifiers in front of the rest
 abbrev pub pulled : Form → Form

@@ -1,24 +1,17 @@
 //! Prenex form: quantifiers of variables stand in front.
 #![tactic(auto, unfolding(soqe_form::specs::Boxes::boxes))]
 
-ghost use Rattle.std.specs.Prelude.{◌≡◌, ◌++◌, IfOk, OnOk, cond};
-ghost use Rattle.soqe_form.specs.declared.form.Form.{All, Ex};
-ghost use Rattle.soqe_norm.specs.Prenex.{prefix as prefix_of, matrix as matrix_of, quantify as quantified_by, pulled as pulled_from, IsPrenexed};
+ghost use Rattle.std.specs.Prelude.{◌≡◌, ◌++◌, IfOk, OnOk};
+ghost use Rattle.soqe_form.specs.Quantifiers.{quantify as quantified_by};
+ghost use Rattle.soqe_norm.specs.Prenex.{prefix as prefix_of, matrix as matrix_of, pulled as pulled_from, IsPrenexed};
 ghost use Rattle.soqe_norm.specs.PrenexLaws.{PrenexKeepsTruth, PrenexIsPrenex, PrenexKeepsSorts, PrenexKeepsVariables, PrenexKeepsPredicates, PrenexKeepsBlocks};
 
 use crate::apart::apart;
-use soqe_form::Form;
-use soqe_form::make::{conjunction, disjunction, exists, for_all};
-use soqe_term::{Mem, Nums, Var};
+use soqe_form::make::{conjunction, disjunction};
+use soqe_form::{Form, Quantifier, quantified};
+use soqe_term::{Mem, Nums};
 use sqlite_items::Boxed;
 use std::alloc::Global;
-
-/// A quantifier of a variable.
-#[derive(Clone, Copy, Debug, PartialEq, Eq)]
-pub struct Quantifier {
-    pub universal: bool,
-    pub variable: Var,
-}
 
 /// A formula that says the same over sorts that are not empty, with its quantifiers of variables in front: first the
 /// bound variables are made distinct. Of a normal form without quantifiers of predicates, all quantifiers stand in front;
@@ -124,20 +117,9 @@ fn quantify(alloc: Global, prefix: Vec<Quantifier>, form: Boxed<Form>) -> Mem<Bo
     let mut prefix = prefix;
     let mut made = form;
     while let Some(quantifier) = prefix.pop() {
-        made = quantify_once(alloc, quantifier, made)?;
+        made = quantified(alloc, quantifier, made)?;
     }
     Ok(made)
-}
-
-/// One quantifier in front of the formula.
-fn quantify_once(alloc: Global, quantifier: Quantifier, form: Boxed<Form>) -> Mem<Boxed<Form>>
-    ensures { IfOk result (λ r. r ≡ cond quantifier.universal (All quantifier.variable form) (Ex quantifier.variable form)) }
-{
-    if quantifier.universal {
-        for_all(alloc, quantifier.variable, form)
-    } else {
-        exists(alloc, quantifier.variable, form)
-    }
 }
 
 /// What a formula with its quantifiers in front keeps, and when all of them stand there.

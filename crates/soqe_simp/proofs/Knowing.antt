@@ -15,12 +15,12 @@ use Rattle.soqe_form.specs.Free.{free}
 use Rattle.soqe_form.specs.declared.form.Form.{Form, All, Ex}
 use Rattle.soqe_form.specs.Boxes.{boxes}
 use Rattle.soqe_form.proofs.SameCases.{never}
-use Rattle.soqe_simp.specs.declared.chains.Quantifier.{Quantifier}
+use Rattle.soqe_form.specs.declared.quantifiers.Quantifier.{Quantifier}
 use Rattle.soqe_simp.specs.declared.known.Known.{Known}
 use Rattle.soqe_simp.specs.Conjuncts.{around}
 use Rattle.soqe_simp.specs.Ready.{IsSimple}
 use Rattle.soqe_simp.specs.Simplified.{simplify}
-use Rattle.soqe_simp.specs.Chains.{quantified}
+use Rattle.soqe_form.specs.Quantifiers.{quantified}
 use Rattle.soqe_simp.specs.Known.{IsPlaceOf, ArePlaces, Learns, Passes, HasWithin, Knows, PutsBack}
 use Rattle.soqe_simp.proofs.RowForms.{Some-is}
 use Rattle.soqe_simp.proofs.Simplifies.{simplify-keeps}

@@ -6,7 +6,7 @@ use Rattle.soqe_term.proofs.Choices.{by_cases}
 use Rattle.soqe_form.specs.declared.form.Form.{Form, All, All', Ex, Ex', end_of-Form as end, more_of-Form as one}
 use Rattle.soqe_form.specs.Boxes.{boxes}
 use Rattle.soqe_form.specs.Free.{free}
-use Rattle.soqe_simp.specs.declared.chains.Quantifier.{Quantifier}
+use Rattle.soqe_form.specs.declared.quantifiers.Quantifier.{Quantifier}
 use Rattle.soqe_simp.specs.Weight.{weight}
 use Rattle.soqe_simp.specs.Shapes.{given, first_of}
 use Rattle.soqe_simp.specs.Conjuncts.{solved, below_alls, solved_not, solved_imp}
@@ -14,7 +14,8 @@ use Rattle.soqe_simp.specs.Rows.{with_solution}
 use Rattle.soqe_simp.specs.Step.{by_row, step}
 use Rattle.soqe_simp.specs.Ready.{Children, IsSimple}
 use Rattle.soqe_simp.specs.Simplified.{then_on, simplify}
-use Rattle.soqe_simp.specs.Chains.{is_quantified, quantified, quantify}
+use Rattle.soqe_simp.specs.Chains.{is_quantified}
+use Rattle.soqe_form.specs.Quantifiers.{quantified, quantify}
 use Rattle.soqe_simp.proofs.Simple.{simplify-simple, simple-stays}
 use Rattle.soqe_simp.proofs.Simplifies.{simplify-keeps}
 use Rattle.soqe_simp.proofs.Settled.{simplify-at_root, simplify-children}

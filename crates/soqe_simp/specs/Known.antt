@@ -7,9 +7,9 @@ use Rattle.soqe_form.specs.Counts.{counted}
 use Rattle.soqe_form.specs.Marks.{marked}
 use Rattle.soqe_form.specs.Free.{free as free_in}
 use Rattle.soqe_form.specs.declared.form.Form.{Form}
-use Rattle.soqe_simp.specs.declared.chains.Quantifier.{Quantifier}
+use Rattle.soqe_form.specs.declared.quantifiers.Quantifier.{Quantifier}
 use Rattle.soqe_simp.specs.declared.known.Known.{Known}
-use Rattle.soqe_simp.specs.Chains.{quantified}
+use Rattle.soqe_form.specs.Quantifiers.{quantified}
 use Rattle.soqe_simp.specs.Conjuncts.{solved, below_alls, solved_not, solved_imp}
 use Rattle.soqe_simp.specs.Sides.{has_side, has_condition}
 use Rattle.soqe_simp.specs.Simplified.{simplify}

@@ -2,23 +2,16 @@
 #![tactic(auto, unfolding(soqe_form::specs::Boxes::boxes))]
 
 ghost use Rattle.std.specs.Prelude.{◌≡◌, ◌≤◌, true, IfOk};
-ghost use Rattle.soqe_simp.specs.Chains.{is_quantified as is_quantified_of, quantify, quantified as quantified_of};
+ghost use Rattle.soqe_form.specs.Quantifiers.{quantify, quantified as quantified_of};
+ghost use Rattle.soqe_simp.specs.Chains.{is_quantified as is_quantified_of};
 ghost use Rattle.soqe_simp.specs.Stepped.{stepped};
 ghost use Rattle.soqe_simp.specs.Weight.{weight};
 
 use crate::stepping::{Stepped, take_step};
-use soqe_form::Form;
-use soqe_form::make::{exists, for_all};
-use soqe_term::{Mem, Var};
+use soqe_form::{Form, Quantifier};
+use soqe_term::Mem;
 use sqlite_items::Boxed;
 use std::alloc::Global;
-
-/// `all` or `ex` with its variable.
-#[derive(Clone, Copy)]
-pub struct Quantifier {
-    pub universal: bool,
-    pub variable: Var,
-}
 
 /// A quantifier, and the formula behind it.
 #[derive(Drop)]
@@ -87,17 +80,6 @@ pub fn open(form: Boxed<Form>) -> Opened
             body,
         },
         _ => unreachable!(),
-    }
-}
-
-/// The formula behind the quantifier.
-pub fn quantified(alloc: Global, quantifier: Quantifier, form: Boxed<Form>) -> Mem<Boxed<Form>>
-    ensures { IfOk result (λ r. r ≡ quantified_of quantifier form) }
-{
-    if quantifier.universal {
-        for_all(alloc, quantifier.variable, form)
-    } else {
-        exists(alloc, quantifier.variable, form)
     }
 }
 

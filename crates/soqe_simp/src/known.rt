@@ -8,9 +8,8 @@ ghost use Rattle.soqe_form.specs.Free.{free as free_in};
 ghost use Rattle.soqe_simp.specs.Sides.{has_side, has_condition};
 ghost use Rattle.soqe_simp.specs.Known.{ArePlaces, Learns, Passes};
 
-use crate::chains::Quantifier;
 use crate::sides::{mark_conditions, mark_sides};
-use soqe_form::{Counts, Form, Marks, free_vars};
+use soqe_form::{Counts, Form, Marks, Quantifier, free_vars};
 use soqe_term::Mem;
 use std::alloc::Global;
 

@@ -6,16 +6,14 @@ ghost use Rattle.soqe_simp.specs.Simplified.{on_children, simplify as simple};
 ghost use Rattle.soqe_simp.specs.Ready.{Children, IsSimple, IsBelow, Ready, is_again as is_again_of, is_below as is_below_of, is_anew as is_anew_of};
 ghost use Rattle.soqe_simp.specs.Stepped.{stepped as stepped_of};
 ghost use Rattle.soqe_simp.specs.Finished.{finished, IsReady};
-ghost use Rattle.soqe_simp.specs.Chains.{quantify, quantified as quantified_of};
+ghost use Rattle.soqe_form.specs.Quantifiers.{quantify, quantified as quantified_of};
 ghost use Rattle.soqe_simp.specs.Known.{PutsBack};
 
-use crate::chains::{
-    Opened, Quantifier, chain_of, is_quantified, open, quantified, step_quantified,
-};
+use crate::chains::{Opened, chain_of, is_quantified, open, step_quantified};
 use crate::known::{Known, know, learn, may_be_defined, pass};
 use crate::rewriting::Rewritten;
 use crate::stepping::{Stepped, take_step};
-use soqe_form::Form;
+use soqe_form::{Form, Quantifier, quantified};
 use soqe_term::Mem;
 use sqlite_items::Boxed;
 use std::alloc::Global;

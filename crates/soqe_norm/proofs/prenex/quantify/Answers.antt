@@ -1,5 +1,5 @@
 use Rattle.std.proofs.Common.{◌∙◌, ap, sym}
-use Rattle.soqe_norm.specs.Prenex.{quantify}
+use Rattle.soqe_form.specs.Quantifiers.{quantify}
 use Rattle.soqe_norm.proofs.Quantifieds.{quantify-push}
 use Rattle.soqe_norm.proofs.prenex.quantify.Goals as goal
 

@@ -1,5 +1,5 @@
 use Rattle.std.proofs.Common.{◌≡◌, length}
-use Rattle.soqe_norm.specs.Prenex.{quantify}
+use Rattle.soqe_form.specs.Quantifiers.{quantify}
 use Rattle.soqe_norm.proofs.prenex.quantify.Given as goal
 
 abbrev pub invariant-loop-quantifier : goal.invariant-loop-quantifier

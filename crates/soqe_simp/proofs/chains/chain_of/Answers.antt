@@ -1,5 +1,5 @@
 use Rattle.std.proofs.Common.{◌∙◌, ap, sym, arith}
-use Rattle.soqe_simp.specs.Chains.{quantify}
+use Rattle.soqe_form.specs.Quantifiers.{quantify}
 use Rattle.soqe_simp.specs.Weight.{weight}
 use Rattle.soqe_simp.proofs.Quantified.{quantify-push, weight-quantified}
 use Rattle.soqe_simp.proofs.chains.chain_of.Goals as goal

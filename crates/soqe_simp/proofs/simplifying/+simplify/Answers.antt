@@ -10,10 +10,10 @@ use Rattle.soqe_simp.proofs.Simple.{children-simplified-weigh, simplify-simple, 
 use Rattle.soqe_simp.proofs.Settled.{children-made_simple, simplify-children, not-lighter, not-ready, not-simplified, imp-lighter, imp-ready, imp-simplified, below-default}
 use Rattle.soqe_simp.proofs.Finished.{settled-same, finished-simple, stepped-ready, stepped-lighter}
 use Rattle.soqe_form.specs.Counts.{counted}
-use Rattle.soqe_simp.specs.declared.chains.Quantifier.{Quantifier}
+use Rattle.soqe_form.specs.declared.quantifiers.Quantifier.{Quantifier}
 use Rattle.soqe_simp.specs.declared.stepping.Stepped.TheVariants.{Settled, Made}
 use Rattle.soqe_simp.specs.Stepped.{stepped}
-use Rattle.soqe_simp.specs.Chains.{quantified, quantify}
+use Rattle.soqe_form.specs.Quantifiers.{quantified, quantify}
 use Rattle.soqe_simp.specs.Known.{Learns, PutsBack}
 use Rattle.soqe_simp.proofs.Quantified.{children-quantified, weight-popped, put_front-step, put_front-end, chain-whole, chain-weighs, chain-simplified, simplify-quantified, weight-quantify}
 use Rattle.soqe_simp.proofs.Knowing.{each-place, last-place_of, last-knows, others-place, knows-learned, puts-none, puts-passed, puts-settled, puts-learned}

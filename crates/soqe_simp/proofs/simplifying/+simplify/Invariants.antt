@@ -3,7 +3,7 @@ use Rattle.soqe_form.specs.Counts.{counted}
 use Rattle.soqe_simp.specs.Weight.{weight}
 use Rattle.soqe_simp.specs.Ready.{IsSimple}
 use Rattle.soqe_simp.specs.Simplified.{simplify}
-use Rattle.soqe_simp.specs.Chains.{quantified, quantify}
+use Rattle.soqe_form.specs.Quantifiers.{quantified, quantify}
 use Rattle.soqe_simp.specs.Known.{Knows}
 use Rattle.soqe_simp.proofs.Finished.{load}
 use Rattle.soqe_simp.proofs.Knowing.{EachHasPlace}
