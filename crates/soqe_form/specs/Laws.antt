@@ -1,5 +1,5 @@
 -- Laws of truth and of places, which every elimination rests on.
-use Rattle.std.specs.Prelude.{ℕ, ◌≡◌, ◌≤◌, Bool, true, false, is_some, map, List, Some}
+use Rattle.std.specs.Prelude.{ℕ, ◌≡◌, Bool, true, false, is_some, map, List, Some}
 use Rattle.soqe_term.specs.World.{World, with_bound}
 use Rattle.soqe_term.specs.Occurs.{AgreeOn}
 use Rattle.soqe_term.specs.Finite.{every_list, some_list, product, entry}

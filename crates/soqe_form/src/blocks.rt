@@ -2,7 +2,7 @@
 #![tactic(auto, unfolding(crate::specs::Boxes::boxes))]
 
 ghost use Rattle.std.specs.Prelude.{◌≡◌, IfOk, [], reverse, Some};
-ghost use Rattle.soqe_form.specs.Places.{first_block as first_block_of, within, leftmost, innermost};
+ghost use Rattle.soqe_form.specs.Places.{first_block as first_block_of, within, leftmost};
 ghost use Rattle.soqe_form.specs.Found.{upward, further, seen, seen_in};
 
 use crate::form::{Block, Form, PVar};

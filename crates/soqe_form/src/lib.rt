@@ -4,7 +4,8 @@
 //! Read `specs/Truth.antt` first: the truth of a formula in a world. `specs/Sorted.antt` says which formulas are well
 //! sorted, `specs/Alike.antt` when two have one truth, `specs/Same.antt` when they are equal up to the numbers of what is
 //! bound in them, `specs/Places.antt` where a block stands, and `specs/Pure.antt` what a result may contain.
-//! `specs/FreePreds.antt` says where a predicate is free. Substitution and renaming are in soqe_subst, tidy formulas in soqe_tidy.
+//! `specs/FreePreds.antt` says where a predicate is free, `specs/Quantifiers.antt` what a formula is behind quantifiers.
+//! Substitution and renaming are in soqe_subst, tidy formulas in soqe_tidy.
 #![tactic(auto)]
 
 mod blocks;

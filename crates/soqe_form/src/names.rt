@@ -12,7 +12,6 @@ ghost use Rattle.soqe_form.specs.Marks.{Adds};
 use crate::form::Form;
 use crate::marks::Marks;
 use soqe_term::{Mem, Term, Terms, Var, occurs, occurs_in_any};
-use sqlite_items::Boxed;
 
 /// Whether the variable with the number is free in the formula. It takes no memory.
 pub fn is_free(form: &Form, num: u64) -> bool

@@ -1,11 +1,11 @@
-//! Copies, first blocks and replaced parts of formulas written by hand.
+//! Copies, first blocks, replaced parts, lists and quantifiers of formulas written by hand, and counts.
 mod exchanged;
 mod predicates;
 mod sameness;
 mod variables;
 
 use crate::{
-    Block, Form, Forms, PVar, Pred, Quantifier, copy_boxed, find_block, first_block, make,
+    Block, Counts, Form, Forms, PVar, Pred, Quantifier, copy_boxed, find_block, first_block, make,
     quantified, replace_at, sum_of_counts,
 };
 use soqe_term::{Mem, Nums, Sorts, Term, Terms, Var};
@@ -74,21 +74,6 @@ fn equation(alloc: Global, m: u64, n: u64) -> Mem<Boxed<Form>> {
     let left = Boxed::new(alloc, Term::Var(Var { num: m, sort: 0 }))?;
     let right = Boxed::new(alloc, Term::Var(Var { num: n, sort: 0 }))?;
     Boxed::new(alloc, Form::Equal(left, right))
-}
-
-fn number(term: &Term) -> Option<u64> {
-    match term {
-        Term::Var(x) => Some(x.num),
-        _ => None,
-    }
-}
-
-/// The numbers of the two variables of such an equation.
-fn sides(form: &Form) -> Option<(u64, u64)> {
-    match form {
-        Form::Equal(s, t) => Some((number(s.get())?, number(t.get())?)),
-        _ => None,
-    }
 }
 
 /// `x = x -> ex2 P0. all2 P1. ~P`
@@ -281,7 +266,12 @@ fn a_quantifier_stands_in_front(rt: HostRuntime) -> Result<(), Fail> {
 }
 
 #[test]
-fn a_sum_of_counts_fits_or_fails(rt: HostRuntime) -> Result<(), Fail> {
+fn counts_add_up(rt: HostRuntime) -> Result<(), Fail> {
+    let mut counts = Counts::new(rt.alloc());
+    counts.set(3, 2)?;
+    counts.add(3, 5)?;
+    counts.add(4, 1)?;
+    assert!(rt; counts.of(3) == 7 && counts.of(4) == 1 && counts.of(5) == 0);
     assert!(rt; sum_of_counts(2, 3)? == 5);
     assert!(rt; sum_of_counts(u64::MAX, 1).is_err());
     Ok(())

@@ -6,7 +6,7 @@ use Rattle.std.proofs.lemmas.List.{take_all}
 use Rattle.soqe_term.specs.declared.bindings.Bound.{Bound}
 use Rattle.soqe_term.specs.declared.term.Var.{Var}
 use Rattle.soqe_term.specs.declared.term.Term.{Term, Var as var}
-use Rattle.soqe_term.specs.Occurs.{occurs, first_from}
+use Rattle.soqe_term.specs.Occurs.{occurs}
 use Rattle.soqe_term.specs.Bindings.{bound_term, term_or, term_of}
 use Rattle.soqe_form.specs.declared.form.Form.{Form}
 use Rattle.soqe_form.specs.Marks.{marked, IsLeastWithout, Adds}

@@ -1,4 +1,5 @@
-//! Tidy formulas: from the outside in, each binder of a variable has the least number that is neither kept out nor free below it.
+//! Tidy formulas: from the outside in, each binder of a variable has the least number that is neither kept out nor that of another
+//! free variable of its body.
 //!
 //! Read `specs/Tidy.antt` first: the tidy form of a formula. `specs/Laws.antt` says what it keeps. `specs/Tidies.antt` and
 //! `specs/Tallies.antt` say how it is found in n log n steps: by counts of free numbers, which go on from a formula to its larger

@@ -1,5 +1,5 @@
 //! Free predicates of a formula written by hand.
-use crate::{Form, PVar, Pred, has_free_pred, make};
+use crate::{Form, Marks, PVar, Pred, has_free_pred, make, mark_preds};
 use soqe_term::{Mem, Sorts, Terms};
 use sqlite_items::Boxed;
 use std::alloc::Global;
@@ -34,5 +34,15 @@ fn a_bound_predicate_is_not_free(rt: HostRuntime) -> Result<(), Fail> {
     for (pred, due) in cases {
         assert!(rt; has_free_pred(form.get(), &pred) == due);
     }
+    Ok(())
+}
+
+#[test]
+fn the_numbers_of_predicates_are_marked(rt: HostRuntime) -> Result<(), Fail> {
+    let alloc = rt.alloc();
+    let form = with_block(alloc)?;
+    let mut marks = Marks::new(alloc);
+    mark_preds(form.get(), &mut marks)?;
+    assert!(rt; !marks.has(0) && marks.has(1) && marks.has(2) && !marks.has(3));
     Ok(())
 }

@@ -2,8 +2,11 @@
 ghost use Rattle.std.specs.Prelude.{◌≡◌};
 
 use super::equation;
-use crate::{Form, Marks, PVars, free_vars, make, mark_numbers, mark_variables, well_sorted};
-use soqe_term::{Mem, Signature, SkolemSigs, Var, Vars};
+use crate::{
+    Form, Marks, PVars, free_vars, make, mark_form, mark_numbers, mark_term, mark_variables,
+    well_sorted,
+};
+use soqe_term::{Mem, Signature, SkolemSigs, Term, Var, Vars};
 use sqlite_items::Boxed;
 use std::alloc::Global;
 use std::test::Fail;
@@ -37,6 +40,18 @@ fn the_numbers_of_lists_are_marked(rt: HostRuntime) -> Result<(), Fail> {
     mark_variables(&[var(1), var(5)], &mut marks)?;
     assert!(rt; marks.has(3) && marks.has(5) && !marks.has(4));
     assert!(rt; marks.least_unmarked() == 2);
+    Ok(())
+}
+
+#[test]
+fn the_numbers_of_terms_and_formulas_are_marked(rt: HostRuntime) -> Result<(), Fail> {
+    let alloc = rt.alloc();
+    let form = with_binder(alloc)?;
+    let mut marks = Marks::new(alloc);
+    mark_form(form.get(), &mut marks)?;
+    assert!(rt; !marks.has(0) && marks.has(1) && marks.has(2) && marks.has(3));
+    mark_term(&Term::Var(var(0)), &mut marks)?;
+    assert!(rt; marks.least_unmarked() == 4);
     Ok(())
 }
 

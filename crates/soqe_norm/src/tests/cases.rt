@@ -2,6 +2,7 @@
 use super::{P, made, put, show, sign_of};
 use crate::case_list::{Case, CaseList};
 use crate::cases::cases;
+use crate::folding::{case_form, made_or, or_next};
 use soqe_term::{Mem, Nums};
 use std::alloc::Global;
 use std::test::Fail;
@@ -57,6 +58,38 @@ fn finds_cases(rt: HostRuntime) -> Result<(), Fail> {
     ];
     for (text, kept, result) in table {
         let found = cases_of(alloc, text, kept)?;
+        assert_eq!(rt; found.as_slice(), result);
+    }
+    Ok(())
+}
+
+/// The cases, each as one formula, joined by `|`.
+fn joined(alloc: Global, text: &[u8]) -> Mem<Vec<u8>> {
+    let keep = Nums::new(alloc);
+    let form = made(alloc, text)?;
+    let list = cases(alloc, form.get(), &P, &keep)?;
+    let mut any = None;
+    for case in list.as_slice() {
+        let next = case_form(alloc, case.copy(alloc)?)?;
+        any = Some(or_next(alloc, any, next)?);
+    }
+    let any = made_or(alloc, any, false)?;
+    let mut out = Vec::new(alloc);
+    show(&mut out, any.get())?;
+    Ok(out)
+}
+
+#[test]
+fn joins_cases(rt: HostRuntime) -> Result<(), Fail> {
+    let alloc = rt.alloc();
+    let table: [(&[u8], &[u8]); 4] = [
+        (b"dp|", b"dp|"),
+        (b"dq&p&", b"dq&p&"),
+        (b"p0&e", b"p0&e"),
+        (b"pd|qp|&", b"pq&pp&|dq&|dp&|"),
+    ];
+    for (text, result) in table {
+        let found = joined(alloc, text)?;
         assert_eq!(rt; found.as_slice(), result);
     }
     Ok(())
