@@ -1,6 +1,6 @@
 -- Marks on what stands in the formulas of a list, and parameters chosen one after another, each search beginning where the
 -- last ended.
-use Rattle.std.proofs.Common.{◌≡◌, ℕ, ◌<◌, Bool, true, false, cond, eqb, not, ◌||◌, List, [], ◌∷◌, ◌++◌, ◌+◌, length, take, get_or, refl, sym, ◌∙◌, ap, subst, arith}
+use Rattle.std.proofs.Common.{◌≡◌, ℕ, ◌<◌, Bool, true, cond, eqb, not, ◌||◌, List, [], ◌∷◌, ◌++◌, ◌+◌, length, take, get_or, refl, sym, ◌∙◌, ap, subst, arith}
 use Rattle.std.specs.List.{list_any}
 use Rattle.std.proofs.lemmas.List.Folds.{list_any-append, list_any_more}
 use Rattle.soqe_term.specs.declared.term.Var.{Var}
@@ -11,6 +11,7 @@ use Rattle.soqe_form.specs.Marks.{Adds, IsLeastWithout}
 use Rattle.soqe_form.specs.Mentions.{mentions}
 use Rattle.soqe_form.proofs.Marked.{adds-two}
 use Rattle.soqe_norm.specs.Apart.{IsLeast}
+use Rattle.soqe_norm.proofs.Choosing.{or_swap, pushed, still}
 use Rattle.soqe_ack.specs.Acked.{AreParameters}
 
 -- one more formula
@@ -19,12 +20,6 @@ pub adds_form : (fs : List Form) (i : ℕ) (d : Form) (a b c : List (ℕ × Bool
 adds_form fs i d a b c l h k =
     adds-two (λ n. list_any (λ f. mentions n f) (take i fs)) (λ n. mentions n (get_or fs i d)) (λ n. list_any (λ f. mentions n f) (take (i + 1) fs)) a b c
     (λ n. list_any_more (λ f. mentions n f) fs i d l) h k
-
-or_swap : (a b c : Bool) → ((a || b) || c) ≡ (b || (a || c))
-or_swap true true c = refl
-or_swap true false c = refl
-or_swap false true c = refl
-or_swap false false c = refl
 
 -- one more parameter
 parameters-push : (used : ℕ → Bool) (sorts : List ℕ) (xs : List Var) (s n : ℕ) → AreParameters used sorts xs → IsLeast (λ m. not (is_among xs m || used m)) n
@@ -50,16 +45,6 @@ chosen_none first = record {
   marks = refl;
   below = λ k h. absurd (omega arith);
 }
-
-pushed : (e a f : Bool) → cond e true (a || f) ≡ ((a || (e || false)) || f)
-pushed true true f = refl
-pushed true false f = refl
-pushed false true f = refl
-pushed false false f = refl
-
-still : (e u : Bool) → u ≡ true → cond e true u ≡ true
-still true u h = refl
-still false u h = h
 
 least : (first now : ℕ → Bool) (xs : List Var) (n : ℕ) → now ≡ (λ m. is_among xs m || first m) → IsLeastWithout now n → IsLeast (λ m. not (is_among xs m || first m)) n
 least first now xs n e l = record {

@@ -53,7 +53,7 @@ impl Acked {
 ///
 /// It walks each conjunct once for its parts, and once for its signs where it is no guard; a conjunct without the predicate
 /// is copied, and so is one that gets the value, which is put in only where the predicate stands. The recursion is as deep
-/// as the case and the answer.
+/// as the case and the answer. It fails where memory runs out.
 pub fn apply(alloc: Global, case: &Case, pred: &PVar, sign: Sign, keep: &Nums) -> Mem<Option<Acked>>
     ensures exact { IfOk result (λ r. IsApplied (is_pos sign) pred.now keep.now case.now.vars case.now.conj r) }
     ensures truth { IfOk result (λ r. AppliedIsAlike pred.now case.now.vars case.now.conj r) }

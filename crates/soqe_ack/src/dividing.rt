@@ -1,7 +1,7 @@
 //! The conjuncts of a case as a try takes them: the conditions of the guards, and what becomes of each conjunct.
 #![tactic(auto, unfolding(soqe_form::specs::Boxes::boxes))]
 
-ghost use Rattle.std.specs.Prelude.{◌≡◌, IfOk, Some, None};
+ghost use Rattle.std.specs.Prelude.{◌≡◌, IfOk};
 ghost use Rattle.soqe_norm.specs.Rises.{has_sign as has_sign_of};
 ghost use Rattle.soqe_ack.specs.Signs.{is_pos};
 ghost use Rattle.soqe_ack.specs.Divides.{IsRole, is_in_way, Takes, IsDivision};
@@ -99,6 +99,7 @@ fn has_sign(form: &Form, pred: &Pred, sign: Sign) -> bool
     }
 }
 
+/// Whether the conjunct has the sign and is no guard.
 fn stands_in_way(role: &Role<'_>) -> bool
     ensures { result ≡ is_in_way role.now }
 {

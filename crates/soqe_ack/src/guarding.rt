@@ -22,7 +22,7 @@ use std::alloc::Global;
 #[derive(Drop)]
 pub enum GuardEnd {
     Guard {
-        cond: Boxed<Form>,
+        condition: Boxed<Form>,
         rest: Boxed<Form>,
     },
     NotGuard,
@@ -34,10 +34,10 @@ impl GuardEnd {
         ensures { IfOk result (λ copy. copy ≡ self.now) }
     {
         match self {
-            GuardEnd::Guard { cond, rest } => {
-                let cond = copy_boxed(alloc, cond)?;
+            GuardEnd::Guard { condition, rest } => {
+                let condition = copy_boxed(alloc, condition)?;
                 let rest = copy_boxed(alloc, rest)?;
-                Ok(GuardEnd::Guard { cond, rest })
+                Ok(GuardEnd::Guard { condition, rest })
             }
             GuardEnd::NotGuard => Ok(GuardEnd::NotGuard),
         }
@@ -61,7 +61,7 @@ pub enum Found {
 
 /// The condition and the rest of a formula that is a guard of the predicate at the sign, with these parameters; a formula
 /// without the predicate is one, with the condition false. It takes time and memory in proportion to the formula and the
-/// answer, and goes down the formula by recursion.
+/// answer, goes down the formula by recursion, and fails where memory runs out.
 pub fn guard(alloc: Global, form: &Form, pred: &Pred, sign: Sign, params: &Vars) -> Mem<GuardEnd>
     ensures exact { IfOk result (λ end. IsGuardEnd (is_pos sign) pred.now params.now form.now end) }
     ensures says { IfOk result (λ end. EndSaysParts (is_pos sign) pred.now params.now form.now end) }
@@ -71,10 +71,13 @@ pub fn guard(alloc: Global, form: &Form, pred: &Pred, sign: Sign, params: &Vars)
             let cond = constant(alloc, false)?;
             let form = form.copy(alloc)?;
             let rest = Boxed::new(alloc, form)?;
-            Ok(GuardEnd::Guard { cond, rest })
+            Ok(GuardEnd::Guard {
+                condition: cond,
+                rest,
+            })
         }
         Found::Parts(parts) => Ok(GuardEnd::Guard {
-            cond: parts.condition,
+            condition: parts.condition,
             rest: parts.rest,
         }),
         Found::NoGuard => Ok(GuardEnd::NotGuard),

@@ -1,4 +1,4 @@
-//! Guards of a predicate and Ackermann's lemma: how a predicate that a formula binds to one side goes away.
+//! Guards of a predicate and Ackermann's lemma: how the predicate of a case goes away by the try of a sign.
 //!
 //! Read `specs/Guards.antt` first: which formulas are guards of a predicate, and what their conditions and rests are.
 //! `specs/Acked.antt` says what a case becomes by the try of a sign, `specs/Tries.antt` which try is taken and what is shown

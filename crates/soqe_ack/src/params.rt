@@ -1,6 +1,6 @@
 //! Parameters of a predicate in a case: variables whose numbers stand nowhere in it.
 
-ghost use Rattle.std.specs.Prelude.{◌≡◌, IfOk, OnOk};
+ghost use Rattle.std.specs.Prelude.{IfOk, OnOk};
 ghost use Rattle.std.specs.List.{list_any};
 ghost use Rattle.soqe_form.specs.Marks.{marked, Adds};
 ghost use Rattle.soqe_form.specs.Mentions.{mentions};

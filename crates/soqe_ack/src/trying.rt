@@ -24,7 +24,8 @@ pub struct Tried {
 }
 
 /// The case without the predicate by the positive try, or by the negative one where a conjunct stands in the way of the
-/// positive; none where one stands in the way of each. It costs what two tries do at most.
+/// positive; none where one stands in the way of each. It costs what two tries do at most, and fails
+/// where memory runs out.
 pub fn first_try(alloc: Global, case: &Case, pred: &PVar, keep: &Nums) -> Mem<Option<Tried>>
     ensures exact { IfOk result (λ r. IsFirstTry pred.now keep.now case.now.vars case.now.conj r) }
 {

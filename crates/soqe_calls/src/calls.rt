@@ -25,7 +25,7 @@ use soqe_tidy::tidy;
 use sqlite_items::Boxed;
 use std::alloc::Global;
 
-/// Does what the plan asks for.
+/// Does what the plan asks for. It fails where memory runs out.
 pub fn follow(alloc: Global, plan: Plan) -> Mem<u64>
     ensures { IfOk result (λ n. AnswersPlan plan n) }
 {
@@ -55,7 +55,8 @@ fn least(alloc: Global, count: u32) -> Mem<u64>
     Ok(least_unused(nums.as_slice()))
 }
 
-/// Makes a call on the formula, and says how many free variables there are, or how many nodes the answer has.
+/// Makes a call on the formula, and says how many free variables there are, or how many nodes the answer has. It
+/// fails where memory runs out.
 pub fn answer(alloc: Global, call: Call, form: &Boxed<Form>) -> Mem<u64>
     ensures { IfOk result (λ n. n ≡ answer_of call form.now) }
 {

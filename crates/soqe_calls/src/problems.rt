@@ -1,7 +1,7 @@
 //! The problems whose goals are the measured formulas: their predicates and all their variables are declared.
 #![tactic(auto)]
 
-ghost use Rattle.std.specs.Prelude.{◌≡◌, ◌∷◌, [], ◌++◌, codes, string_bytes, IfOk, OnOk};
+ghost use Rattle.std.specs.Prelude.{◌≡◌, ◌∷◌, [], ◌++◌, string_bytes, IfOk, OnOk};
 ghost use Rattle.soqe_term.specs.declared.kinds.Kind.TheVariants as kind;
 ghost use Rattle.soqe_calls.specs.Problems.{declared, predicates as predicates_of, variable_name as variable_name_of, names as names_of, variables as variables_of, problem_of};
 
@@ -12,7 +12,7 @@ use soqe_term::{Kind, Mem, Signature, Sorts};
 use soqe_text::Problem;
 use std::alloc::{AllocError, Global};
 
-/// The problem whose goal is the formula of a shape and about so many nodes.
+/// The problem whose goal is the formula of a shape and about so many nodes. It fails where memory runs out.
 pub fn problem(alloc: Global, shape: Shape, size: u32) -> Mem<Problem>
     ensures { IfOk result (λ p. p ≡ problem_of shape size) }
 {
@@ -31,8 +31,7 @@ fn variables(shape: Shape, size: u32) -> u32
     match shape {
         Shape::Wide => size / 10 + 4,
         Shape::Mixed => size / 20 + 4,
-        Shape::Deep | Shape::Negations => 4,
-        Shape::NegationRows | Shape::ChainRows => 4,
+        Shape::Deep | Shape::Negations | Shape::NegationRows | Shape::ChainRows => 4,
     }
 }
 

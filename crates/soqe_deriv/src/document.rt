@@ -43,8 +43,11 @@ pub enum Line {
     Dls(DlsStep),
     /// The block's formula takes its place.
     Close(Boxed<Form>),
+    /// The formula without blocks that the derivation has come to.
     Result(Boxed<Form>),
+    /// The method refused the first block, and why.
     Stopped(Stop),
+    /// The last line.
     End,
 }
 

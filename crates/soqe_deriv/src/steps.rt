@@ -1,9 +1,8 @@
 //! The text of the steps of a block by cases. Each function writes behind what is there, and fails where memory runs out.
 #![tactic(auto, using(std::proofs::Common::append_assoc))]
 
-ghost use Rattle.std.specs.Prelude.{◌≡◌, ◌++◌, map, codes, decimal, string_bytes, OnOk};
+ghost use Rattle.std.specs.Prelude.{◌≡◌, ◌++◌, map, codes, string_bytes, OnOk};
 ghost use Rattle.soqe_ack.specs.declared.steps.DlsStep.TheVariants as step;
-ghost use Rattle.soqe_show.specs.Dress.{form_text};
 ghost use Rattle.soqe_show.specs.Printed.{further_text};
 ghost use Rattle.soqe_deriv.specs.Text.{parameter_text, sign_text, step_text, with_parameters};
 

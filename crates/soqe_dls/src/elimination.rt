@@ -1,6 +1,6 @@
 //! Elimination of a block's predicate, case by case.
 
-ghost use Rattle.std.specs.Prelude.{◌+◌, ◌<◌, IfOk};
+ghost use Rattle.std.specs.Prelude.{IfOk};
 ghost use Rattle.soqe_dls.specs.Parts.{WritesCase, WritesTry};
 ghost use Rattle.soqe_dls.specs.RunLaws.{EndsTrue};
 ghost use Rattle.soqe_dls.specs.Runs.{EndsRun, IsAnswer};
@@ -51,7 +51,7 @@ impl DlsEnd {
 /// negative. Binders get no number of `keep`, and neither do parameters.
 ///
 /// Each case costs what its size does, but the number of cases can be exponential in the size of the form. It recurses as deep as
-/// the form, the formula of a case or its value.
+/// the form, the formula of a case or its value, and fails where memory runs out.
 pub fn dls(alloc: Global, form: &Form, pred: &PVar, keep: &Nums) -> Mem<DlsEnd>
     ensures exact { IfOk result (λ end. IsAnswer keep.now pred.now form.now end) }
     ensures truth { IfOk result (λ end. EndsTrue pred.now form.now end) }

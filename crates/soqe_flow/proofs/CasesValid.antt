@@ -26,8 +26,9 @@ use Rattle.soqe_ack.specs.declared.steps.DlsStep.TheVariants as step
 use Rattle.soqe_ack.specs.Acked.{IsAcked, is_used}
 use Rattle.soqe_ack.specs.AckedLaws.{below}
 use Rattle.soqe_ack.specs.Signs.{is_pos}
-use Rattle.soqe_ack.specs.Tries.{IsTidyCase, IsTried, positive, negative, IsShown}
+use Rattle.soqe_ack.specs.Tries.{IsTidyCase, positive, negative, IsShown}
 use Rattle.soqe_ack.proofs.AckedSorts.{value-is-sorted}
+use Rattle.soqe_ack.proofs.Applies.{acked-of}
 use Rattle.soqe_ack.proofs.ParameterNumbers.{parameters-distinct}
 use Rattle.soqe_ack.proofs.Shown.{shown-same, shown-distinct}
 use Rattle.soqe_dls.specs.Runs.{Outcome, Reached, NotReached, after, IsRun, no_more, reached, stops}
@@ -44,11 +45,6 @@ in_cases p f b w = record { phase = Running; problem = Some p; formula = Some f;
 -- the cases of a block between two of them
 abbrev pub between : Form → List Case → ℕ → List Form → Cases
 between normal due n given = record { normal = Some normal; due = due; number = n; present = None; given = given }
-
-acked-of : {p : PVar} {keep : List ℕ} {vars : List Var} {fs : List Form} {s : Bool} {params : List Var} {value form : Form}
-    → IsTried p keep vars fs s params value form → IsAcked s p keep vars fs params value form
-acked-of (positive a) = a
-acked-of (negative _ a) = a
 
 below-sorted : (e : Sorting) (p : PVar) (f : Form) → sorted e (Ex2 p f) ≡ sorted (over_bound e p.num p.args) f
 unfolding boxes

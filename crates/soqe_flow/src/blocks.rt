@@ -1,6 +1,5 @@
 //! The blocks of what stands, one after another.
 ghost use Rattle.std.specs.Prelude.{◌≡◌, ◌∷◌, [], ◌++◌, None, IfOk};
-ghost use Rattle.soqe_form.specs.Found.{seen};
 ghost use Rattle.soqe_form.specs.Places.{first_block as block_of};
 ghost use Rattle.soqe_form.specs.declared.form.Form.{Form as Formula};
 ghost use Rattle.soqe_deriv.specs.declared.document.Line.TheVariants.{Start, Result, End};

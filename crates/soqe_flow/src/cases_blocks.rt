@@ -1,5 +1,5 @@
 //! The lines of a block by cases: the normal form, the steps of its cases, and what they come to.
-ghost use Rattle.std.specs.Prelude.{◌≡◌, ◌∷◌, [], ◌++◌, map, Some, IfOk};
+ghost use Rattle.std.specs.Prelude.{◌≡◌, ◌++◌, map, Some, IfOk};
 ghost use Rattle.soqe_form.specs.Found.{seen};
 ghost use Rattle.soqe_form.specs.declared.form.Form.{Form as Formula};
 ghost use Rattle.soqe_form.specs.Places.{first_block as block_of};

@@ -48,7 +48,7 @@ impl FlowEnd {
 }
 
 /// The derivation of a problem: the first block of what stands is eliminated until there is none. It moves the problem
-/// into the document, and fails where memory runs out, or where a stop's number does not fit in 64 bits.
+/// into the document, and fails where memory runs out, or where a place of a mixed stop is 2^64 - 1 or more.
 pub fn elim(alloc: Global, problem: Problem, wanted: Wanted) -> Mem<FlowEnd>
     requires { IsSorted problem }
     ensures ordered { IfOk result (λ end. EndsAsOrdered wanted problem end) }

@@ -8,7 +8,7 @@ pub fn derivations_are_valid()
     ensures sound { DoneIsSound }
 {}
 
-/// The problem and the method determine the document.
+/// A formula, a method and the numbers to keep out determine the lines and their ending.
 pub fn one_derivation()
     ensures { OneDerivation }
 {}

@@ -1,7 +1,7 @@
 //! Derivations: the blocks of a problem, eliminated one after another, as documents.
 //!
 //! `specs/Ordered.antt` says which lines are written for a problem, and that the document is valid and its
-//! result right; `specs/Laws.antt` says the same of every such document, and that there is only one.
+//! result right; `specs/Laws.antt` says the same of every such document, and that a formula has one derivation by a method.
 //!
 //! - `derivation`: from a problem and a method to the document
 //! - `blocks`: the loop over the blocks of what stands

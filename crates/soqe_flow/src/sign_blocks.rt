@@ -1,5 +1,5 @@
 //! The lines of a block whose predicate is replaced by a truth value.
-ghost use Rattle.std.specs.Prelude.{◌≡◌, ◌∷◌, [], ◌++◌, ℕ, Option, Some, None, true, is_some, IfOk};
+ghost use Rattle.std.specs.Prelude.{◌≡◌, ◌++◌, ℕ, Option, Some, None, true, is_some, IfOk};
 ghost use Rattle.soqe_form.specs.Found.{seen};
 ghost use Rattle.soqe_form.specs.declared.form.Form.{Form as Formula};
 ghost use Rattle.soqe_form.specs.Places.{first_block as block_of};
@@ -97,7 +97,8 @@ fn mixed(block: &BlockRef) -> Mem<Stop>
     Ok(Stop::Mixed { pos, neg })
 }
 
-/// The number that was given as the greatest of 64 bits where it is greater. No memory holds so many atoms.
+/// The place itself. The search caps a place at the greatest number of 64 bits, so that number is refused; no memory holds so
+/// many atoms.
 fn exact(place: Option<u64>) -> Mem<u64>
     requires { is_some place ≡ true }
     ensures { IfOk result (λ n. (o : Option ℕ) → place ≡ capped o → o ≡ Some n) }

@@ -33,7 +33,7 @@ choice_made taken used standing b n e c = choose (taken b) c
     choose true c = least_choice taken used standing n e c
     choose false c = c
 
-or_swap : (a b c : Bool) → ((a || b) || c) ≡ (b || (a || c))
+pub or_swap : (a b c : Bool) → ((a || b) || c) ≡ (b || (a || c))
 or_swap true true c = refl
 or_swap true false c = refl
 or_swap false true c = refl
@@ -64,7 +64,7 @@ chosen_none first used all e = record {
   below = λ k h. absurd (omega arith);
 }
 
-pushed : (e a f : Bool) → cond e true (a || f) ≡ ((a || (e || false)) || f)
+pub pushed : (e a f : Bool) → cond e true (a || f) ≡ ((a || (e || false)) || f)
 pushed true true f = refl
 pushed true false f = refl
 pushed false true f = refl
@@ -74,7 +74,7 @@ over : (e t s : Bool) → cond e true (t || s) ≡ (cond e true t || s)
 over true t s = refl
 over false t s = refl
 
-still : (e u : Bool) → u ≡ true → cond e true u ≡ true
+pub still : (e u : Bool) → u ≡ true → cond e true u ≡ true
 still true u h = refl
 still false u h = h
 

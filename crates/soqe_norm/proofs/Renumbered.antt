@@ -16,13 +16,10 @@ use Rattle.soqe_form.specs.declared.form.Form.{Form, True, False, Equal, Atom, N
 use Rattle.soqe_form.specs.Boxes.{boxes}
 use Rattle.soqe_form.specs.Free.{free}
 use Rattle.soqe_form.specs.Same.{related, same_term, same_terms, same_pred, same_sorts, same_in}
+use Rattle.soqe_form.proofs.SameNumbers.{Named}
 use Rattle.soqe_form.proofs.SameOrder.{IsDiagonal, diagonal-under, same_pred-self, same_sorts-from}
 use Rattle.soqe_norm.specs.Nnf.{is_atomic, is_nnf}
 use Rattle.soqe_norm.specs.Apart.{binders, renumbered}
-
--- each number that passes is named the same as its new number
-abbrev pub Named : List (ℕ × ℕ) → (ℕ → ℕ) → (ℕ → Bool) → Type 0
-Named vs r p = (m : ℕ) → p m ≡ true → related vs (r m) m ≡ true
 
 mutual
   unfolding term_boxes

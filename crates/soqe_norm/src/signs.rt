@@ -1,10 +1,10 @@
 //! The signs with which a predicate occurs, and where each first does.
 #![tactic(auto, unfolding(soqe_form::specs::Boxes::boxes))]
 
-ghost use Rattle.std.specs.Prelude.{◌≡◌, Bool, true, false, cond, None};
-ghost use Rattle.soqe_norm.specs.Signs.{Signs, turned, both, signs_under};
+ghost use Rattle.std.specs.Prelude.{◌≡◌};
+ghost use Rattle.soqe_norm.specs.Signs.{turned, both, signs_under};
 ghost use Rattle.soqe_norm.specs.Valued.{occurs_pos, occurs_neg, first_pos, first_neg};
-ghost use Rattle.soqe_norm.specs.Passes.{signs_in, next, note, noted, scanned, capped};
+ghost use Rattle.soqe_norm.specs.Passes.{signs_in, note, noted, scanned, capped};
 
 use soqe_form::{Form, Pred, is_hidden, is_same_pred};
 

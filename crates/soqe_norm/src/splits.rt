@@ -2,7 +2,7 @@
 #![tactic(auto, unfolding(soqe_form::specs::Boxes::boxes, crate::specs::SplitBoxes::split_boxes))]
 
 ghost use Rattle.std.specs.Prelude.{◌≡◌, ◌++◌, ◌∷◌, [], IfOk, OnOk, map};
-ghost use Rattle.soqe_form.specs.declared.form.Form.{Form, And, Or};
+ghost use Rattle.soqe_form.specs.declared.form.Form.{And, Or};
 ghost use Rattle.soqe_norm.specs.Cases.{both as joined, whole as whole_of, pairings};
 ghost use Rattle.soqe_norm.specs.Splits.{Falls, split_cases, undivided as undivided_of, in_two, below_it, cases_in, cases_seen, seen};
 

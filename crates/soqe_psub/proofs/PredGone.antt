@@ -16,7 +16,8 @@ use Rattle.soqe_form.specs.Mentions.{depth}
 use Rattle.soqe_form.specs.Places.{has_blocks}
 use Rattle.soqe_subst.specs.PredRenaming.{renamed_pred, renumbered}
 use Rattle.soqe_form.specs.Sorted.{sorted}
-use Rattle.soqe_subst.specs.Substitution.{renamed, numbered, sub}
+use Rattle.soqe_subst.specs.Substitution.{renamed, sub}
+use Rattle.soqe_term.specs.Renumber.{numbered}
 use Rattle.soqe_subst.proofs.SubstitutedBlocks.{has_blocks-renamed, has_blocks-sub}
 use Rattle.soqe_subst.proofs.FreeAtoms.{has_atom-any, has_atom-none, has_atom-lacks, has_atom-renamed, has_atom-renamed_pred, has_atom-sub, sorted-counts}
 use Rattle.soqe_subst.proofs.PredRenamings.{depth-renamed_pred, hides-none}

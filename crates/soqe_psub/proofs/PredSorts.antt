@@ -2,7 +2,7 @@
 --
 -- In a well-sorted formula an atom of the predicate has arguments of the parameters' sorts, so the law of substitution gives a
 -- well-sorted body. Below a binder the body is as well sorted as before, or no atom stands there.
-use Rattle.std.proofs.Common.{◌≡◌, ℕ, zero, suc, ◌<◌, ◌≤◌, Bool, true, false, cond, eqb, not, ◌||◌, ◌&&◌, map, List, [], ◌∷◌, length, Option, Some, refl, sym, ◌∙◌, ap, arith}
+use Rattle.std.proofs.Common.{◌≡◌, ℕ, zero, suc, ◌<◌, ◌≤◌, Bool, true, false, cond, eqb, not, ◌||◌, ◌&&◌, List, [], ◌∷◌, length, Option, Some, refl, sym, ◌∙◌, ap, arith}
 use Rattle.std.specs.List.{All}
 use Rattle.std.proofs.lemmas.Bool.{eqb-true, eq-eqb, ne_eqb, or_from, or_left, or_right, both_ways}
 use Rattle.std.proofs.lemmas.List.Elements.{All-nil, All-cons, All-head, All-tail}
@@ -25,8 +25,9 @@ use Rattle.soqe_form.specs.FreePreds.{count, same_pred, hides, has_free, over_pr
 use Rattle.soqe_form.specs.Mentions.{depth}
 use Rattle.soqe_subst.specs.PredRenaming.{renamed_pred, renumbered}
 use Rattle.soqe_form.specs.Sorted.{sorted, pred_sorts}
-use Rattle.soqe_subst.specs.Substitution.{visible, without, renamed, numbered, sub}
-use Rattle.soqe_subst.proofs.FreeAtoms.{has_free-renamed, has_free-renamed_pred}
+use Rattle.soqe_subst.specs.Substitution.{visible, without, renamed, sub}
+use Rattle.soqe_term.specs.Renumber.{numbered}
+use Rattle.soqe_subst.proofs.FreeAtoms.{has_free-renamed, length-sorted}
 use Rattle.soqe_form.proofs.FreePreds.{same_pred-true}
 use Rattle.soqe_subst.proofs.PredRenamings.{depth-renamed_pred, free_pred-mentions, hides-none}
 use Rattle.soqe_subst.proofs.PredSorts.{pred_sorts-over_pred, pred_sorts-other, over_pred-commutes, over_pred-hidden, sorted_term-over_pred, sorted_terms-over_pred, sorted-other_number}
@@ -39,13 +40,6 @@ use Rattle.soqe_psub.proofs.NewNumbers.{IsNew, IsNewPred, fresh_var-is, fresh_pr
 use Rattle.soqe_psub.proofs.PredTruth.{first_fails}
 
 -- well-sorted arguments are as many as their sorts
-length-sorted : (e : Sorting) (ts : Terms) (sorts : List ℕ) → sorted_terms e ts sorts ≡ true → count ts ≡ length sorts
-length-sorted e Nil [] h = refl
-length-sorted e Nil (s ∷ sorts) h = absurd (both_ways false refl h)
-length-sorted e (Cons' _ (one-t t end-t) _ (ones-t ts ends-t)) [] h = absurd (both_ways false refl h)
-length-sorted e (Cons' _ (one-t t end-t) _ (ones-t ts ends-t)) (s ∷ sorts) h =
-    ap suc (length-sorted e ts sorts (and_second (eqb (own_sort t) s) (sorted_terms e ts sorts) (and_second (sorted_term e t) (eqb (own_sort t) s && sorted_terms e ts sorts) h)))
-
 -- ---- the binding of the arguments
 
 All-visible : (P : Pair → Type 0) (p : ℕ → Bool) (s : List Pair) → All P s → All P (visible p s)

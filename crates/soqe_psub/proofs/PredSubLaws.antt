@@ -1,5 +1,5 @@
 -- What the result of replacing a predicate says, from the exact result.
-use Rattle.std.proofs.Common.{◌≡◌, ℕ, eqb, length, List, ◌∙◌, ap, arith}
+use Rattle.std.proofs.Common.{◌≡◌, eqb, length, List, ◌∙◌, ap, arith}
 use Rattle.soqe_term.specs.declared.term.Var.{Var}
 use Rattle.soqe_form.specs.declared.form.Pred.{Pred}
 use Rattle.soqe_form.specs.declared.form.Form.{Form}

@@ -11,7 +11,8 @@ use Rattle.soqe_form.specs.FreePreds.{count, hides, has_free}
 use Rattle.soqe_form.specs.FreeVars.{is_among}
 use Rattle.soqe_form.specs.Mentions.{depth}
 use Rattle.soqe_subst.specs.PredRenaming.{renamed_pred, renumbered}
-use Rattle.soqe_subst.specs.Substitution.{renamed, numbered, sub}
+use Rattle.soqe_subst.specs.Substitution.{renamed, sub}
+use Rattle.soqe_term.specs.Renumber.{numbered}
 use Rattle.soqe_subst.proofs.PredRenamings.{depth-renamed_pred}
 use Rattle.soqe_subst.proofs.Renamings.{depth-renamed, depth-positive}
 use Rattle.soqe_psub.specs.PredSubst.{arguments, catches_var, fresh_var, new_binder, new_body, catches_pred, fresh_pred, new_pred_binder, new_pred_body, pred_sub, IsPredSub}

@@ -2,7 +2,7 @@
 --
 -- An atom of the predicate says what the table says, by the law of substitution. Below a binder the table is as before: a binder
 -- that would change it is renamed where an atom stands below it, and where none does the table doesn't matter.
-use Rattle.std.proofs.Common.{◌≡◌, ℕ, zero, suc, max, ◌+◌, ◌<◌, ◌≤◌, Bool, true, false, cond, eqb, not, ◌||◌, ◌&&◌, map, List, [], ◌∷◌, length, refl, sym, ◌∙◌, ap, arith}
+use Rattle.std.proofs.Common.{◌≡◌, ℕ, zero, suc, ◌<◌, ◌≤◌, Bool, true, false, cond, eqb, not, ◌||◌, ◌&&◌, map, List, [], ◌∷◌, length, refl, sym, ◌∙◌, ap, arith}
 use Rattle.std.proofs.lemmas.Bool.{eqb-true, ne_eqb, or_from, both_ways}
 use Rattle.soqe_term.specs.declared.term.Var.{Var}
 use Rattle.soqe_term.specs.declared.term.Terms.{Terms, Nil, Cons', end_of-Term as end-t, more_of-Term as one-t, end_of-Terms as ends-t, more_of-Terms as ones-t}
@@ -10,8 +10,8 @@ use Rattle.soqe_term.specs.World.{World, changed, with_var, with_bound}
 use Rattle.soqe_term.specs.Value.{value, values}
 use Rattle.soqe_term.specs.Finite.{every, some, every_list, some_list, product, entry}
 use Rattle.soqe_term.specs.Bindings.{assigned}
-use Rattle.soqe_term.proofs.Choices.{by_cases, bool_cases, or_none_first, or_none_second, and_first, and_second, and_fails}
-use Rattle.soqe_term.proofs.Worlds.{reading, changed-at, changed-off, agree_changed, first_from-passes}
+use Rattle.soqe_term.proofs.Choices.{by_cases, bool_cases, and_first, and_second, and_fails}
+use Rattle.soqe_term.proofs.Worlds.{reading, changed-at, changed-off, agree_changed}
 use Rattle.soqe_form.specs.declared.form.PVar.{PVar}
 use Rattle.soqe_form.specs.declared.form.Pred.{Pred}
 use Rattle.soqe_form.specs.declared.form.Pred.TheVariants.{Decl, Bound}
@@ -21,17 +21,17 @@ use Rattle.soqe_form.specs.Truth.{truth, holds, alike}
 use Rattle.soqe_form.specs.Free.{free, free_pred}
 use Rattle.soqe_form.specs.FreeVars.{is_among}
 use Rattle.soqe_form.specs.FreePreds.{count, same_pred, hides, has_free, with_pred}
-use Rattle.soqe_form.specs.Mentions.{mentions, form_above, depth}
+use Rattle.soqe_form.specs.Mentions.{depth}
 use Rattle.soqe_subst.specs.PredRenaming.{renamed_pred, renumbered}
-use Rattle.soqe_form.specs.MentionsPreds.{mentions_pred, preds_above}
-use Rattle.soqe_subst.specs.Substitution.{renamed, numbered, sub}
+use Rattle.soqe_subst.specs.Substitution.{renamed, sub}
+use Rattle.soqe_term.specs.Renumber.{numbered}
 use Rattle.soqe_form.proofs.Agree.{truth-agree}
 use Rattle.soqe_subst.proofs.Binders.{assigned-without}
 use Rattle.soqe_form.proofs.FreePreds.{same_pred-true, holds-with_pred, holds-other, holds-beside, with_pred-commutes, values-with_pred, value-with_pred, truth-unchanged, truth-same_table}
-use Rattle.soqe_subst.proofs.PredRenamings.{truth-other_number, depth-renamed_pred, free_pred-mentions, hides-none, mentions_pred-above}
-use Rattle.soqe_subst.proofs.Renamings.{truth-renamed, depth-renamed, depth-positive, free-mentions, mentions-above}
+use Rattle.soqe_subst.proofs.PredRenamings.{truth-other_number, depth-renamed_pred, free_pred-mentions, hides-none}
+use Rattle.soqe_subst.proofs.Renamings.{truth-renamed, depth-renamed, depth-positive, free-mentions}
 use Rattle.soqe_subst.proofs.Substitutions.{truth-sub, same_sort_of}
-use Rattle.soqe_psub.specs.PredSubst.{arguments, catches_var, vars_above, lacks_var, fresh_var, new_binder, new_body, catches_pred, lacks_pred, fresh_pred, new_pred_binder, new_pred_body, atom_sub, pred_sub}
+use Rattle.soqe_psub.specs.PredSubst.{arguments, catches_var, fresh_var, new_binder, new_body, catches_pred, fresh_pred, new_pred_binder, new_pred_body, atom_sub, pred_sub}
 use Rattle.soqe_psub.specs.PredSubstLaws.{with_args, table}
 use Rattle.soqe_psub.proofs.NewNumbers.{IsNew, fresh_var-is, IsNewPred, fresh_pred-is}
 

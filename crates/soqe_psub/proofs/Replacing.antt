@@ -10,7 +10,8 @@ use Rattle.soqe_form.specs.Boxes.{boxes}
 use Rattle.soqe_form.specs.FreePreds.{hides}
 use Rattle.soqe_form.specs.Mentions.{depth}
 use Rattle.soqe_subst.specs.PredRenaming.{renamed_pred, renumbered}
-use Rattle.soqe_subst.specs.Substitution.{renamed, numbered}
+use Rattle.soqe_subst.specs.Substitution.{renamed}
+use Rattle.soqe_term.specs.Renumber.{numbered}
 use Rattle.soqe_subst.proofs.PredRenamings.{depth-renamed_pred}
 use Rattle.soqe_subst.proofs.Renamings.{depth-renamed}
 use Rattle.soqe_subst.proofs.Substituting.{fuel}

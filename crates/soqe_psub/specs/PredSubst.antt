@@ -13,7 +13,8 @@ use Rattle.soqe_form.specs.FreePreds.{same_pred, hides, has_free, count}
 use Rattle.soqe_form.specs.Mentions.{mentions, form_above, depth}
 use Rattle.soqe_subst.specs.PredRenaming.{renamed_pred, renumbered}
 use Rattle.soqe_form.specs.MentionsPreds.{mentions_pred, preds_above}
-use Rattle.soqe_subst.specs.Substitution.{without, renamed, numbered, sub}
+use Rattle.soqe_subst.specs.Substitution.{without, renamed, sub}
+use Rattle.soqe_term.specs.Renumber.{numbered}
 
 -- each parameter with its argument; of two parameters with one number the first counts
 abbrev pub arguments : List Var → Terms → List Bound

@@ -1,5 +1,5 @@
 -- How a run ends where what is due was delivered, whole or cut short.
-use Rattle.std.proofs.Common.{◌≡◌, ℕ, List, inl, inr, sym, subst}
+use Rattle.std.proofs.Common.{ℕ, List, inl, inr, sym, subst}
 use Rattle.std.specs.Prelude.{Option}
 use Rattle.soqe_run.specs.Outcome.{EndsAs, IsDelivered}
 use Rattle.soqe_run.specs.declared.status.Status.{Status}

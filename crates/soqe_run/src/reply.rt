@@ -39,7 +39,7 @@ pub(crate) fn read_fault(alloc: Global) -> Mem<Reply>
 }
 
 /// A reply with a fixed text. The one error is want of memory.
-pub(crate) fn fixed(alloc: Global, status: Status, text: &str) -> Mem<Reply>
+fn fixed(alloc: Global, status: Status, text: &str) -> Mem<Reply>
     ensures { IfOk result (λ reply. IsFixed status text.now reply.status reply.text.items) }
 {
     let text = text.as_bytes().to_vec(alloc)?;

@@ -1,5 +1,5 @@
 //! From the bytes of a problem text to a reply.
-ghost use Rattle.std.specs.Prelude.{◌≡◌, ◌<◌, ◌^◌, ◌++◌, ℕ, List, length, codes, IfOk, IsTrue};
+ghost use Rattle.std.specs.Prelude.{◌≡◌, ◌<◌, ◌^◌, ◌++◌, ℕ, List, length, IfOk, IsTrue};
 ghost use Rattle.std.specs.Fmt.{decimal};
 ghost use Rattle.soqe_text.specs.Spelled.{Spells};
 ghost use Rattle.soqe_text.specs.Sorted.{IsSorted};

@@ -1,3 +1,4 @@
+//! Whole runs on sources and sinks in memory: texts, statuses, failed calls and limits.
 use super::*;
 use soqe_io::{Failed, MemSink, MemSource, NullSink, RepeatSource, Source};
 use std::alloc::Global;

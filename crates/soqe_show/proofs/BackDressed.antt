@@ -30,7 +30,7 @@ use Rattle.soqe_text.specs.Numbering.{applied, predicate, negated, over_elements
 use Rattle.soqe_show.specs.Printed.{Text}
 use Rattle.soqe_show.specs.Placed.{equation_sign}
 use Rattle.soqe_show.specs.Dress as dress
-use Rattle.soqe_show.specs.Dress.{guard, onto, name_or, sort_name, var_name, pred_name, dress_term, dress_terms_onto, written_sort, dress_declared, dress_all_declared}
+use Rattle.soqe_show.specs.Dress.{guard, onto, name_or, sort_name, var_name, pred_name, dress_term, dress_terms_onto, written_sort}
 use Rattle.soqe_show.proofs.BackKnown.{number_of}
 use Rattle.soqe_show.proofs.BackNames.{Named}
 use Rattle.soqe_show.proofs.BackUses.{sort_of, behind_terms, is_right, right_term, right_in, right_in_all, right_atom, is_sort, right_sort, sort_of_binder, IsRight}

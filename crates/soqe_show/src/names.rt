@@ -1,4 +1,4 @@
-//! Numbers, names and sorts. Each function writes behind what is there.
+//! Numbers, names and sorts. Each function writes behind what is there, and fails where memory runs out.
 ghost use Rattle.std.specs.Prelude.{◌≡◌, ◌++◌, map, decimal, codes, string_bytes, OnOk};
 ghost use Rattle.soqe_term.specs.Declarations.{name_of};
 ghost use Rattle.soqe_show.specs.Dress.{name_or, sort_name, var_name, sym_name, pred_name, written_sort};
@@ -35,14 +35,14 @@ fn write_name(out: &mut String, sig: &Signature, kind: NameKind, tag: &str, numb
     }
 }
 
-/// Writes the name of a sort, or its number where no name has it. It fails where memory runs out.
+/// Writes the name of a sort, or its number where no name has it.
 pub fn write_sort(out: &mut String, sig: &Signature, sort: u32) -> Mem<()>
     ensures { OnOk result (string_bytes out.new ≡ string_bytes out.old ++ sort_name sig.now sort) }
 {
     write_name(out, sig, NameKind::Sort, "", sort as u64)
 }
 
-/// Writes the name of a variable, or `_` with its number. It fails where memory runs out.
+/// Writes the name of a variable, or `_` with its number.
 pub fn write_var(out: &mut String, sig: &Signature, number: u64) -> Mem<()>
     ensures { OnOk result (string_bytes out.new ≡ string_bytes out.old ++ var_name sig.now number) }
 {
@@ -59,8 +59,7 @@ pub fn write_sym(out: &mut String, sig: &Signature, symbol: Sym) -> Mem<()>
     }
 }
 
-/// Writes the name of a predicate, or `_p` with the number of a bound one that has no name. It fails where memory runs
-/// out, as every writer here does.
+/// Writes the name of a predicate, or `_p` with the number of a bound one that has no name.
 pub fn write_pred(out: &mut String, sig: &Signature, pred: Pred) -> Mem<()>
     ensures { OnOk result (string_bytes out.new ≡ string_bytes out.old ++ pred_name sig.now pred) }
 {
@@ -70,8 +69,7 @@ pub fn write_pred(out: &mut String, sig: &Signature, pred: Pred) -> Mem<()>
     }
 }
 
-/// Writes the sort of a binder behind a colon, and nothing where it is `obj`, which has the number 0. It fails where memory
-/// runs out.
+/// Writes the sort of a binder behind a colon, and nothing where it is `obj`, which has the number 0.
 #[tactic(auto, using(std::proofs::Common::append_assoc))]
 pub fn write_binder_sort(out: &mut String, sig: &Signature, sort: u32) -> Mem<()>
     ensures { OnOk result (string_bytes out.new ≡ string_bytes out.old ++ sort_text (written_sort sig.now sort)) }

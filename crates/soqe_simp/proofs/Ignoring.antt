@@ -12,7 +12,8 @@ use Rattle.soqe_form.specs.declared.form.PVar.{PVar}
 use Rattle.soqe_form.specs.declared.form.Form.{Form, True, False, Equal, Atom, Not, Not', And, And', Or, Or', Imp, Imp', Iff, Iff', All, All', Ex, Ex', All2, All2', Ex2, Ex2', end_of-Form as end, more_of-Form as one}
 use Rattle.soqe_form.specs.Boxes.{boxes}
 use Rattle.soqe_form.specs.Free.{free_pred}
-use Rattle.soqe_subst.specs.Substitution.{without, renamed, fresh, numbered, catches, new_binder, new_body, sub}
+use Rattle.soqe_subst.specs.Substitution.{without, renamed, fresh, catches, new_binder, new_body, sub}
+use Rattle.soqe_term.specs.Renumber.{numbered}
 use Rattle.soqe_simp.specs.Weight.{weight}
 
 -- the value at a node depends on the values at its parts, and on the predicates that stand there

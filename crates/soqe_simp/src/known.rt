@@ -5,7 +5,6 @@ ghost use Rattle.std.specs.Prelude.{◌≡◌, OnOk, IfOk, cond, length};
 ghost use Rattle.soqe_form.specs.Counts.{counted};
 ghost use Rattle.soqe_form.specs.Marks.{marked};
 ghost use Rattle.soqe_form.specs.Free.{free as free_in};
-ghost use Rattle.soqe_simp.specs.Sides.{has_side, has_condition};
 ghost use Rattle.soqe_simp.specs.Known.{ArePlaces, Learns, Passes};
 
 use crate::sides::{mark_conditions, mark_sides};

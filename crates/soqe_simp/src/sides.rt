@@ -1,16 +1,15 @@
 //! Marks on the variables of a chain of quantifiers that an equation of the formula behind it may define.
 #![tactic(auto, unfolding(soqe_form::specs::Boxes::boxes, soqe_term::specs::Boxes::boxes))]
 
-ghost use Rattle.std.specs.Prelude.{◌≡◌, OnOk, IfOk};
+ghost use Rattle.std.specs.Prelude.{◌≡◌, OnOk};
 ghost use Rattle.soqe_form.specs.Counts.{counted};
-ghost use Rattle.soqe_form.specs.Marks.{marked, Adds};
+ghost use Rattle.soqe_form.specs.Marks.{Adds};
 ghost use Rattle.soqe_form.specs.declared.form.Form.{Ex, All};
 ghost use Rattle.soqe_simp.specs.Sides.{is_within, has_number, has_number_in, says, has_side, has_condition};
 
 use soqe_form::{Counts, Form, Marks};
 use soqe_term::{Mem, Term, Terms, Var};
 use sqlite_items::Boxed;
-use std::alloc::Global;
 
 /// Whether the term has the variable n, or one whose quantifier stands further in.
 #[cycle(has_within)]

@@ -19,7 +19,8 @@ use Rattle.soqe_form.specs.FreePreds.{same_pred, hides, has_free, count, has_ato
 use Rattle.soqe_form.specs.Mentions.{depth}
 use Rattle.soqe_subst.specs.PredRenaming.{exchanged, renamed_pred}
 use Rattle.soqe_form.specs.Sorted.{sorted, pred_sorts}
-use Rattle.soqe_subst.specs.Substitution.{without, renamed, numbered, fresh, catches, new_body, sub}
+use Rattle.soqe_subst.specs.Substitution.{without, renamed, fresh, catches, new_body, sub}
+use Rattle.soqe_term.specs.Renumber.{numbered}
 use Rattle.soqe_form.proofs.FreePreds.{same_pred-true}
 use Rattle.soqe_subst.proofs.Renamings.{depth-renamed, depth-positive}
 use Rattle.soqe_form.proofs.Numbers.{eqb-swap}
@@ -235,7 +236,7 @@ has_free-renamed_pred q m n f h =
 
 -- ---- atoms in a well-sorted formula
 
-length-sorted : (e : Sorting) (ts : Terms) (sorts : List ℕ) → sorted_terms e ts sorts ≡ true → count ts ≡ length sorts
+pub length-sorted : (e : Sorting) (ts : Terms) (sorts : List ℕ) → sorted_terms e ts sorts ≡ true → count ts ≡ length sorts
 length-sorted e Nil [] h = refl
 length-sorted e Nil (s ∷ sorts) h = absurd (both_ways false refl h)
 length-sorted e (Cons' _ (one-t t end-t) _ (ones-t ts ends-t)) [] h = absurd (both_ways false refl h)

@@ -7,7 +7,8 @@ use Rattle.soqe_form.specs.declared.form.Form.{Form, True, False, Equal, Atom, N
 use Rattle.soqe_form.specs.Boxes.{boxes}
 use Rattle.soqe_form.specs.Places.{has_blocks, count_blocks}
 use Rattle.soqe_form.proofs.BlockCounts.{blocks-by_count}
-use Rattle.soqe_subst.specs.Substitution.{without, renamed, numbered, fresh, catches, new_body, sub}
+use Rattle.soqe_subst.specs.Substitution.{without, renamed, fresh, catches, new_body, sub}
+use Rattle.soqe_term.specs.Renumber.{numbered}
 
 either_way : (b : Bool) (f g : Form) → count_blocks g ≡ count_blocks f → count_blocks (cond b f g) ≡ count_blocks f
 either_way true f g h = refl

@@ -14,7 +14,8 @@ use Rattle.soqe_form.specs.declared.form.Form.{Form, True, False, Equal, Atom, N
 use Rattle.soqe_form.specs.Boxes.{boxes}
 use Rattle.soqe_form.specs.Free.{free}
 use Rattle.soqe_form.specs.Mentions.{depth}
-use Rattle.soqe_subst.specs.Substitution.{without, renamed, fresh, numbered, catches, new_binder, new_body, sub}
+use Rattle.soqe_subst.specs.Substitution.{without, renamed, fresh, catches, new_binder, new_body, sub}
+use Rattle.soqe_term.specs.Renumber.{numbered}
 use Rattle.soqe_subst.proofs.Binders.{bound_term-visible, bound_term-new}
 use Rattle.soqe_subst.proofs.Renamings.{depth-renamed, depth-positive}
 use Rattle.soqe_subst.proofs.Substitutions.{IsFresh, fresh-is}

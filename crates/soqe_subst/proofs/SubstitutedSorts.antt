@@ -31,7 +31,8 @@ use Rattle.soqe_form.specs.Boxes.{boxes}
 use Rattle.soqe_form.specs.Free.{free}
 use Rattle.soqe_form.specs.Sorted.{sorted, pred_sorts}
 use Rattle.soqe_form.specs.Mentions.{mentions, depth}
-use Rattle.soqe_subst.specs.Substitution.{without, renamed, fresh, numbered, catches, new_binder, new_body, sub}
+use Rattle.soqe_subst.specs.Substitution.{without, renamed, fresh, catches, new_binder, new_body, sub}
+use Rattle.soqe_term.specs.Renumber.{numbered}
 use Rattle.soqe_subst.specs.IsSub.{single}
 use Rattle.soqe_form.proofs.Sortings.{sorted-agree}
 use Rattle.soqe_subst.proofs.Binders.{bound_term-visible, bound_term-new, occurs-uncaught, occurs-new}
@@ -244,11 +245,11 @@ first_fails : (b c : Bool) → cond b false c ≡ true → b ≡ false
 first_fails true c h = sym h
 first_fails false c h = refl
 
-others-kept : (s : List Pair) (y : ℕ) (f : Form) (n : ℕ) → eqb n y ≡ false → free n f ≡ true → (cond (eqb n y) false (free n f) ≡ true) × (bound_term (without y s) n ≡ bound_term s n)
+pub others-kept : (s : List Pair) (y : ℕ) (f : Form) (n : ℕ) → eqb n y ≡ false → free n f ≡ true → (cond (eqb n y) false (free n f) ≡ true) × (bound_term (without y s) n ≡ bound_term s n)
 others-kept s y f n q o =
     (ap (λ b. cond b false (free n f)) q ∙ o, bound_term-visible (λ n. eqb n y) n s ∙ ap (λ b. cond b None (bound_term s n)) q)
 
-others-renamed : (s : List Pair) (y : ℕ) (z : Var) (f : Form) (n : ℕ) → eqb n z.num ≡ false → free n (renamed y z f) ≡ true
+pub others-renamed : (s : List Pair) (y : ℕ) (z : Var) (f : Form) (n : ℕ) → eqb n z.num ≡ false → free n (renamed y z f) ≡ true
     → (cond (eqb n y) false (free n f) ≡ true) × (bound_term (without y s) n ≡ bound_term s n)
 others-renamed s y z f n q o =
     let was : cond (eqb n y) false (free n f) ≡ true = free-renamed n y z f q o in

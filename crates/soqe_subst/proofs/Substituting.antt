@@ -13,7 +13,8 @@ use Rattle.soqe_form.specs.declared.form.Form.{Form, True, False, Equal, Atom, N
 use Rattle.soqe_form.specs.Boxes.{boxes}
 use Rattle.soqe_form.specs.Marks.{marked}
 use Rattle.soqe_form.specs.Mentions.{depth}
-use Rattle.soqe_subst.specs.Substitution.{sub, visible, without, renamed, catches, numbered, fresh, new_binder, new_body}
+use Rattle.soqe_subst.specs.Substitution.{sub, visible, without, renamed, catches, fresh, new_binder, new_body}
+use Rattle.soqe_term.specs.Renumber.{numbered}
 use Rattle.soqe_subst.specs.Substitutes.{Substitutes, SubstitutesBelow, SubstitutesBody}
 use Rattle.soqe_subst.proofs.Binders.{without-visible, visible-all}
 use Rattle.soqe_subst.proofs.Renamings.{depth-renamed}

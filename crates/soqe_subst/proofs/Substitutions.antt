@@ -1,4 +1,4 @@
--- What capture-free substitution does to truth and to sorts.
+-- What capture-free substitution does to truth.
 use Rattle.std.proofs.Common.{◌≡◌, ℕ, zero, suc, max, ◌+◌, ◌<◌, ◌≤◌, Bool, true, false, cond, eqb, not, ◌||◌, ◌&&◌, map, List, refl, sym, ◌∙◌, ap, arith}
 use Rattle.std.proofs.lemmas.Bool.{or_from}
 use Rattle.soqe_term.specs.declared.bindings.Bound.{Bound as Pair}
@@ -17,7 +17,8 @@ use Rattle.soqe_form.specs.Truth.{truth, holds, alike}
 use Rattle.soqe_form.specs.Boxes.{boxes}
 use Rattle.soqe_form.specs.Free.{free}
 use Rattle.soqe_form.specs.Mentions.{mentions, form_above, depth}
-use Rattle.soqe_subst.specs.Substitution.{without, bound_mentions, bound_above, renamed, lacks, fresh, numbered, catches, new_binder, new_body, sub}
+use Rattle.soqe_subst.specs.Substitution.{without, bound_mentions, bound_above, renamed, lacks, fresh, catches, new_binder, new_body, sub}
+use Rattle.soqe_term.specs.Renumber.{numbered}
 use Rattle.soqe_form.proofs.Agree.{truth-agree}
 use Rattle.soqe_subst.proofs.Binders.{assigned-under, assigned-new, assigned-without, assigned-tables, bound_mentions-above}
 use Rattle.soqe_subst.proofs.Renamings.{truth-renamed, depth-renamed, depth-positive, free-mentions, mentions-above}

@@ -3,6 +3,7 @@ use Rattle.std.specs.Prelude.{ℕ, suc, zero, max, eqb, Bool, false, ◌||◌, �
 use Rattle.soqe_term.specs.declared.bindings.Bound.{Bound}
 use Rattle.soqe_term.specs.declared.term.Var.{Var}
 use Rattle.soqe_term.specs.declared.term.Term.{Var as var}
+use Rattle.soqe_term.specs.Renumber.{numbered}
 use Rattle.soqe_term.specs.Occurs.{occurs, above, first_from}
 use Rattle.soqe_term.specs.Subst.{replaced, all_replaced}
 use Rattle.soqe_term.specs.Bindings.{bound_in, all_bound_in}
@@ -57,10 +58,6 @@ lacks s f n = not (bound_mentions n s || mentions n f)
 -- the least such number
 abbrev pub fresh : List Bound → Form → ℕ
 fresh s f = first_from (lacks s f) 0 (max (bound_above s) (form_above f))
-
--- the variable y under the number n
-abbrev pub numbered : Var → ℕ → Var
-numbered y n = record y { num = n }
 
 -- a binder of y in front of f would bind y in a term that takes the place of a free variable of f
 abbrev pub catches : List Bound → Var → Form → Bool

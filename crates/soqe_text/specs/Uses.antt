@@ -202,14 +202,6 @@ behind bytes ds = behind_by bytes (problem_names ds)
 abbrev pub has_arguments : List ℕ → List Declaration → List (Option ℕ) → syntax.Term Span → List ℕ → Bool
 has_arguments bytes ds = has_arguments_by bytes (problem_names ds)
 
--- a head that takes arguments of these sorts has them
-abbrev pub is_used_right : List ℕ → List Declaration → List (Option ℕ) → syntax.Term Span → Option (List ℕ) → Bool
-is_used_right bytes ds = is_used_right_by bytes (problem_names ds)
-
--- the head of a term or an atom, if it is used wrongly
-abbrev pub wrong_head : List ℕ → List Declaration → List (Option ℕ) → syntax.Term Span → Option (List ℕ) → Option ℕ
-wrong_head bytes ds = wrong_head_by bytes (problem_names ds)
-
 -- the head of a term, if it is used wrongly
 abbrev pub wrong_term : List ℕ → List Declaration → List (Option ℕ) → syntax.Term Span → Option ℕ
 wrong_term bytes ds = wrong_term_by bytes (problem_names ds)

@@ -1,5 +1,5 @@
 //! The declarations of a text: the first refused name, or else the signature with all of them.
-ghost use Rattle.std.specs.Prelude.{◌≡◌, ◌<◌, None, Some, Ok, Err, map, IfOk, OnOk};
+ghost use Rattle.std.specs.Prelude.{◌≡◌, ◌<◌, Ok, Err, map, IfOk, OnOk};
 ghost use Rattle.std.specs.Option.{option_or};
 ghost use Rattle.soqe_syntax.specs.Shapes.{declared_view};
 ghost use Rattle.soqe_term.specs.declared.kinds.NameKind.TheVariants as numbering;

@@ -1,5 +1,5 @@
 //! The tokens of a text, or the first byte that begins none.
-ghost use Rattle.std.specs.Prelude.{◌≡◌, IfOk, None};
+ghost use Rattle.std.specs.Prelude.{IfOk, None};
 ghost use Rattle.soqe_lex.specs.Lexical.{Lexed};
 ghost use Rattle.soqe_text.specs.Lexing.{IsLexedBefore, OnTextSyntax, IsSyntaxOrMemory};
 

@@ -1,5 +1,5 @@
 //! The names of a text: the first one that is refused, or else all declarations and names, in the order of the text.
-ghost use Rattle.std.specs.Prelude.{◌≡◌, ◌∷◌, None, Some, Ok, Err, IfOk, OnOk};
+ghost use Rattle.std.specs.Prelude.{◌≡◌, None, Some, Ok, Err, IfOk, OnOk};
 ghost use Rattle.std.specs.Option.{option_or};
 ghost use Rattle.soqe_syntax.specs.Grammar.{Atom, Equation, Bind, Bind2};
 ghost use Rattle.soqe_syntax.specs.Shapes.{view, term_view, terms_view};

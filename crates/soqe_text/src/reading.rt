@@ -4,8 +4,6 @@ ghost use Rattle.soqe_parse.specs.Faults.{IsFaultAt};
 ghost use Rattle.soqe_parse.specs.ProblemShapes.{problem_view};
 ghost use Rattle.soqe_syntax.specs.Shapes.{declared_view, view};
 ghost use Rattle.soqe_syntax.specs.Pieces.{HasProblem};
-ghost use Rattle.soqe_term.specs.declared.kinds.NameKind.TheVariants as numbering;
-ghost use Rattle.soqe_term.specs.Declarations.{count_of, free_sort_of};
 ghost use Rattle.soqe_text.specs.Lexing.{OnTextSyntax};
 ghost use Rattle.soqe_text.specs.Naming.{named, named_problem};
 ghost use Rattle.soqe_text.specs.Lookups.{names_of};

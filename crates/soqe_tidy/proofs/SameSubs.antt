@@ -23,14 +23,15 @@ use Rattle.soqe_form.specs.Free.{free}
 use Rattle.soqe_form.specs.Mentions.{mentions, depth}
 use Rattle.soqe_form.specs.Same.{related, same_term, same_terms, same_pred, same_sorts, same_in}
 use Rattle.soqe_form.specs.Sorted.{sorted}
-use Rattle.soqe_subst.specs.Substitution.{without, renamed, fresh, numbered, catches, new_binder, new_body, sub}
+use Rattle.soqe_subst.specs.Substitution.{without, renamed, fresh, catches, new_binder, new_body, sub}
+use Rattle.soqe_term.specs.Renumber.{numbered}
 use Rattle.soqe_subst.proofs.Binders.{bound_term-visible, bound_term-new, occurs-uncaught, occurs-new}
 use Rattle.soqe_subst.proofs.Renamings.{depth-renamed, depth-positive, free-mentions}
 use Rattle.soqe_form.proofs.Numbers.{eqb-swap}
 use Rattle.soqe_form.proofs.SameCases.{never}
 use Rattle.soqe_form.proofs.SameOrder.{IsDiagonal, same_pred-self, same_sorts-from, diagonal-under}
 use Rattle.soqe_form.proofs.Sortings.{sorted-agree}
-use Rattle.soqe_subst.proofs.SubstitutedSorts.{sorted-renamed, free-renamed}
+use Rattle.soqe_subst.proofs.SubstitutedSorts.{sorted-renamed, others-kept, others-renamed}
 use Rattle.soqe_subst.proofs.Substitutions.{IsFresh, fresh-is}
 use Rattle.soqe_form.proofs.SameFronts.{Pairs, lefts, twins, twins-diagonal, fit-first, fit-under, same_in-chained}
 use Rattle.soqe_tidy.proofs.SameRenamed.{NamesSame, names-left, names-right, same_term-bound, same_atom-bound, Puts, same-renamed}
@@ -67,20 +68,6 @@ names-under vs v s s2 p p2 z r none others new h x o k =
     let same : term_of s2 x ≡ term_of s x = ap (term_or (var x)) known.1 in
     term-off vs x z z (term_of s2 x) q (new x o q) (ap (same_term vs (var x)) same ∙ old))
     refl
-
-first_fails : (b c : Bool) → cond b false c ≡ true → b ≡ false
-first_fails true c h = sym h
-first_fails false c h = refl
-
-others-kept : (s : List Pair) (y : ℕ) (f : Form) (n : ℕ) → eqb n y ≡ false → free n f ≡ true → (cond (eqb n y) false (free n f) ≡ true) × (bound_term (without y s) n ≡ bound_term s n)
-others-kept s y f n q o =
-    (ap (λ b. cond b false (free n f)) q ∙ o, bound_term-visible (λ n. eqb n y) n s ∙ ap (λ b. cond b None (bound_term s n)) q)
-
-others-renamed : (s : List Pair) (y : ℕ) (z : Var) (f : Form) (n : ℕ) → eqb n z.num ≡ false → free n (renamed y z f) ≡ true
-    → (cond (eqb n y) false (free n f) ≡ true) × (bound_term (without y s) n ≡ bound_term s n)
-others-renamed s y z f n q o =
-    let was : cond (eqb n y) false (free n f) ≡ true = free-renamed n y z f q o in
-    (was, bound_term-visible (λ n. eqb n y) n s ∙ ap (λ b. cond b None (bound_term s n)) (first_fails (eqb n y) (free n f) was))
 
 -- ---- binders
 

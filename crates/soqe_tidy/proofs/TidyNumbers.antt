@@ -33,12 +33,6 @@ first_from-at p i zero h = absurd (omega arith)
 first_from-at p i (suc k) h =
     by_cases (λ n. n < i + suc k → p n ≡ true) (p i) i (first_from p (suc i) k) (λ e l. e) (λ e l. first_from-at p (suc i) k (omega arith)) h
 
-first_from-within : (p : ℕ → Bool) (i k : ℕ) → first_from p i k ≤ i + k
-first_from-within p i zero = omega arith
-first_from-within p i (suc k) =
-    let rest = first_from-within p (suc i) k in
-    by_cases (λ n. n ≤ i + suc k) (p i) i (first_from p (suc i) k) (λ e. omega arith) (λ e. omega arith)
-
 pub from_not : (b : Bool) → not b ≡ true → b ≡ false
 from_not true h = sym h
 from_not false h = refl

@@ -1,11 +1,10 @@
 //! The new numbers of a formula's free variables, at each of their occurrences.
 #![tactic(auto, unfolding(soqe_form::specs::Boxes::boxes))]
 
-ghost use Rattle.std.specs.Prelude.{◌≡◌, ◌++◌, ◌∷◌, [], IfOk, OnOk};
+ghost use Rattle.std.specs.Prelude.{◌≡◌, ◌∷◌, [], IfOk, OnOk};
 ghost use Rattle.soqe_term.specs.Renumber.{renames};
-ghost use Rattle.soqe_form.specs.Marks.{marked};
 ghost use Rattle.soqe_form.specs.FreeVars.{occurrences, all_occurrences, free_occurrences, others};
-ghost use Rattle.soqe_tidy.specs.Numbers.{is_bound, new_numbers, unmarked, Lists};
+ghost use Rattle.soqe_tidy.specs.Numbers.{is_bound, new_numbers, Lists};
 
 use soqe_form::{Form, Marks};
 use soqe_term::{Mem, Nums, Renaming, Term, Terms, Var};

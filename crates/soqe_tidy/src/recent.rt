@@ -1,5 +1,5 @@
 //! Counts of numbers, where the latest number is at hand.
-ghost use Rattle.std.specs.Prelude.{◌≡◌, ℕ, cond, eqb, IfOk, OnOk};
+ghost use Rattle.std.specs.Prelude.{◌≡◌, ℕ, cond, eqb, OnOk};
 ghost use Rattle.soqe_term.specs.World.{changed};
 ghost use Rattle.soqe_form.specs.Counts.{counted, Counts as IsMore};
 

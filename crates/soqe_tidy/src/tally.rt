@@ -1,9 +1,8 @@
 //! How often each number stands free in a part of a formula, and the least number that does not.
-ghost use Rattle.std.specs.Prelude.{◌≡◌, ◌<◌, ◌≤◌, ◌+◌, ℕ, cond, eqb, length, slice_index, true, false, IfSome, IfNone, OnOk};
-ghost use Rattle.soqe_term.specs.Unused.{member};
+ghost use Rattle.std.specs.Prelude.{◌≡◌, ◌<◌, ◌≤◌, ℕ, cond, eqb, true, false, IfSome, OnOk};
 ghost use Rattle.soqe_form.specs.Marks.{marked};
-ghost use Rattle.soqe_form.specs.Counts.{counted, times};
-ghost use Rattle.soqe_tidy.specs.Tallies.{IsTally, IsNext, Gains, Loses, IsEmpty, IsLeastBy, Passes};
+ghost use Rattle.soqe_form.specs.Counts.{times};
+ghost use Rattle.soqe_tidy.specs.Tallies.{IsNext, Gains, Loses, IsEmpty, IsLeastBy, Passes};
 
 use crate::num_order::NumOrder;
 use crate::unkept::Unkept;

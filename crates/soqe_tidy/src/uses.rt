@@ -1,7 +1,7 @@
 //! How often the variable of each binder is used, and which part of each node is the smaller one.
 #![tactic(auto, unfolding(soqe_form::specs::Boxes::boxes))]
 
-ghost use Rattle.std.specs.Prelude.{◌≡◌, [], ◌∷◌, IfOk, OnOk};
+ghost use Rattle.std.specs.Prelude.{◌≡◌, [], ◌∷◌, OnOk};
 ghost use Rattle.soqe_form.specs.declared.form.Form.{All};
 ghost use Rattle.soqe_form.specs.FreeVars.{occurrences, all_occurrences};
 ghost use Rattle.soqe_tidy.specs.Numbers.{numbers};

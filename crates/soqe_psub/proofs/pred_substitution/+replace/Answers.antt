@@ -4,7 +4,8 @@ use Rattle.soqe_form.specs.declared.form.PVar.{PVar}
 use Rattle.soqe_form.specs.declared.form.Pred.{Pred}
 use Rattle.soqe_form.specs.declared.form.Form.{Form}
 use Rattle.soqe_form.specs.Mentions.{depth}
-use Rattle.soqe_subst.specs.Substitution.{renamed, numbered}
+use Rattle.soqe_subst.specs.Substitution.{renamed}
+use Rattle.soqe_term.specs.Renumber.{numbered}
 use Rattle.soqe_subst.specs.PredRenaming.{renamed_pred}
 use Rattle.soqe_subst.proofs.Renamings.{depth-renamed}
 use Rattle.soqe_subst.proofs.PredRenamings.{depth-renamed_pred}

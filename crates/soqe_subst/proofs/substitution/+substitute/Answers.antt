@@ -4,7 +4,8 @@ use Rattle.soqe_term.specs.declared.term.Var.{Var}
 use Rattle.soqe_form.specs.declared.form.Form.{Form}
 use Rattle.soqe_form.specs.Marks.{marked}
 use Rattle.soqe_form.specs.Mentions.{depth}
-use Rattle.soqe_subst.specs.Substitution.{visible, catches, fresh, renamed, numbered}
+use Rattle.soqe_subst.specs.Substitution.{visible, catches, fresh, renamed}
+use Rattle.soqe_term.specs.Renumber.{numbered}
 use Rattle.soqe_subst.specs.Substitutes.{Substitutes}
 use Rattle.soqe_subst.proofs.Renamings.{depth-renamed}
 use Rattle.soqe_term.specs.World.{changed}
