@@ -1,6 +1,6 @@
 //! Elimination of a block's predicate, case by case.
 
-ghost use Rattle.std.specs.Prelude.{IfOk};
+ghost use Rattle.std.specs.Prelude.{◌≡◌, IfOk};
 ghost use Rattle.soqe_dls.specs.Parts.{WritesCase, WritesTry};
 ghost use Rattle.soqe_dls.specs.RunLaws.{EndsTrue};
 ghost use Rattle.soqe_dls.specs.Runs.{EndsRun, IsAnswer};
