@@ -1,3 +1,4 @@
 mod Sizes
 mod Listing
 mod Reading
+mod Planned

@@ -1,7 +1,8 @@
 -- What the words ask for.
-use Rattle.std.specs.Prelude.{ℕ, List, Option, None, Some, if◌then◌else◌, codes}
+use Rattle.std.specs.Prelude.{ℕ, ◌≡◌, ◌^◌, ◌<◌, List, [], ◌∷◌, Option, None, Some, if◌then◌else◌, codes}
 use Rattle.std.specs.Option.{option_or}
 use Rattle.std.specs.Str.{bytes_eq}
+use Rattle.std.specs.Str.Parse.{IsNumeral, digits_value, without_leading_plus}
 use Rattle.soqe_calls.specs.declared.words.Call.{Call}
 use Rattle.soqe_calls.specs.declared.words.Call.TheVariants.{Nothing, Nodes, FreeVars, Copy, Same, Tidy, Subst, SubstRenaming, Apart, Nnf, Simplify}
 use Rattle.soqe_calls.specs.declared.words.Shape.{Shape}
@@ -76,3 +77,13 @@ shape_plan name (Some shape) size = formula_plan (call_named name) (other_plan n
 abbrev pub plan_named : List ℕ → List ℕ → ℕ → Option Plan
 plan_named call shape size =
     if bytes_eq shape (codes "list") then list_plan call size else shape_plan call (shape_named shape) size
+
+-- the text is a numeral below 2^32, with or without a plus in front, and this is its number
+abbrev pub IsSize : List ℕ → ℕ → Type 0
+IsSize text n = (IsNumeral 10 (without_leading_plus text) × (digits_value 10 (without_leading_plus text) < 2 ^ 32)) × (n ≡ digits_value 10 (without_leading_plus text))
+
+-- the plan of the words, the program's name first: that of a call, a shape and a size; none of other words
+unfoldable pub IsPlanOf : List (List ℕ) → Option Plan → Type 0
+IsPlanOf (name ∷ call ∷ shape ∷ size ∷ []) plan =
+    ((n : ℕ) → IsSize size n → plan ≡ plan_named call shape n) × (((n : ℕ) → IsSize size n → ⊥) → plan ≡ None)
+IsPlanOf words plan = plan ≡ None

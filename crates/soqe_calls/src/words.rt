@@ -1,7 +1,7 @@
 //! What the words ask for.
 
-ghost use Rattle.std.specs.Prelude.{◌≡◌, length, IfSome};
-ghost use Rattle.soqe_calls.specs.Words.{shape_named, asking_named, making_named, call_named, list_plan, formula_plan, other_plan, shape_plan, plan_named};
+ghost use Rattle.std.specs.Prelude.{◌≡◌, map, string_bytes};
+ghost use Rattle.soqe_calls.specs.Words.{shape_named, asking_named, making_named, call_named, list_plan, formula_plan, other_plan, shape_plan, plan_named, IsPlanOf};
 
 /// A call on a formula.
 #[derive(Clone, Copy, Debug, PartialEq, Eq)]
@@ -74,8 +74,9 @@ pub enum Plan {
 }
 
 /// The plan of the words, the program's name first, or nothing where they aren't taken. It takes no memory.
+#[tactic(auto, unfolding(crate::specs::Words::IsPlanOf))]
 pub fn read_plan(words: &[String]) -> Option<Plan>
-    ensures { IfSome result (λ plan. length words.now ≡ 4) }
+    ensures { IsPlanOf (map string_bytes words.now) result }
 {
     match words {
         [_, call, shape, size] => {
