@@ -1,23 +1,22 @@
--- Each kind of formula under substitution, as the code goes through it.
-use Rattle.std.proofs.Common.{◌≡◌, ℕ, zero, suc, max, ◌≤◌, Bool, true, false, cond, List, refl, sym, ◌∙◌, ap, arith}
+-- Each kind of formula under substitution, as the walk goes through it. Binders stand in SubstitutingBinders.
+use Rattle.std.proofs.Common.{◌≡◌, ℕ, zero, suc, ◌≤◌, Bool, List, Option, refl, sym, ◌∙◌, ap, arith}
 use Rattle.soqe_term.specs.declared.bindings.Bound.{Bound as Pair}
 use Rattle.soqe_term.specs.declared.term.Var.{Var}
 use Rattle.soqe_term.specs.declared.term.Term.{Term}
 use Rattle.soqe_term.specs.declared.term.Terms.{Terms}
-use Rattle.soqe_term.specs.World.{changed}
-use Rattle.soqe_term.specs.Bindings.{bound_in, all_bound_in}
-use Rattle.soqe_term.proofs.Worlds.{changed-again, changed-same}
 use Rattle.soqe_form.specs.declared.form.PVar.{PVar}
 use Rattle.soqe_form.specs.declared.form.Pred.{Pred}
-use Rattle.soqe_form.specs.declared.form.Form.{Form, True, False, Equal, Atom, Not, And, Or, Imp, Iff, All, Ex, All2, Ex2}
+use Rattle.soqe_form.specs.declared.form.Form.{Form, True, False, Equal, Atom, Not, All, Ex, All2, Ex2}
 use Rattle.soqe_form.specs.Boxes.{boxes}
 use Rattle.soqe_form.specs.Marks.{marked}
 use Rattle.soqe_form.specs.Mentions.{depth}
-use Rattle.soqe_subst.specs.Substitution.{sub, visible, without, renamed, catches, fresh, new_binder, new_body}
-use Rattle.soqe_term.specs.Renumber.{numbered}
-use Rattle.soqe_subst.specs.Substitutes.{Substitutes, SubstitutesBelow, SubstitutesBody}
-use Rattle.soqe_subst.proofs.Binders.{without-visible, visible-all}
-use Rattle.soqe_subst.proofs.Renamings.{depth-renamed}
+use Rattle.soqe_tally.specs.declared.unkept.Unkept.{Unkept}
+use Rattle.soqe_tally.specs.declared.tally.Tally.{Tally}
+use Rattle.soqe_subst.specs.declared.walk.Walk.{Walk}
+use Rattle.soqe_subst.specs.NewVars.{new_var}
+use Rattle.soqe_subst.specs.Renewed.{renewed_term, all_renewed}
+use Rattle.soqe_subst.specs.Substitution.{sub}
+use Rattle.soqe_subst.specs.Substitutes.{BindsTerm, BindsTerms, seen, left_of, IsReadyAt, Substitutes, SubstitutesBelow}
 
 -- a depth of at least one more than n is one more than some m, at least n
 pub record Fuel (n k : ℕ) : Type 0 where
@@ -29,135 +28,93 @@ pub fuel : (n k : ℕ) → suc n ≤ k → Fuel n k
 fuel n zero h = absurd (omega arith)
 fuel n (suc m) h = record { less = m; is = refl; enough = omega arith }
 
-abbrev Marks : Type 0
-Marks = List (ℕ × Bool)
+-- what is ready for a node over one part is ready for the part
+ready-part : (u : Unkept) (s : List Pair) (h : ℕ → Bool) (r : ℕ → Option Var) (cs : List Bool) (ns : List ℕ) (f : Form) → IsReadyAt u s h r cs ns (Not f) → IsReadyAt u s h r cs ns f
+unfolding boxes
+ready-part u s h r cs ns f p = record { kept = p.kept; distinct = p.distinct; apart = p.apart; unbound = p.unbound; caught = p.caught; used = p.used }
 
--- the second of two parts, at the marks that the first one left
-again : (s : List Pair) (a b c : Marks) (g t : Form) → marked b ≡ marked a → Substitutes s b c g t → (k : ℕ) → depth g ≤ k → t ≡ sub k (visible (marked a) s) g
-again s a b c g t e o k h = o.by k h ∙ ap (λ m. sub k (visible m s) g) e
+ready-all2 : (u : Unkept) (s : List Pair) (h : ℕ → Bool) (r : ℕ → Option Var) (cs : List Bool) (ns : List ℕ) (p : PVar) (f : Form) → IsReadyAt u s h r cs ns (All2 p f) → IsReadyAt u s h r cs ns f
+unfolding boxes
+ready-all2 u s h r cs ns p f q = record { kept = q.kept; distinct = q.distinct; apart = q.apart; unbound = q.unbound; caught = q.caught; used = q.used }
 
-module _ (s : List Pair) where
-  pub substitutes-true : (a : Marks) → Substitutes s a a True True
-  substitutes-true a = record { by = λ k h. let q = fuel 0 k h in ap (λ k. sub k (visible (marked a) s) True) (sym q.is); kept = refl }
+ready-ex2 : (u : Unkept) (s : List Pair) (h : ℕ → Bool) (r : ℕ → Option Var) (cs : List Bool) (ns : List ℕ) (p : PVar) (f : Form) → IsReadyAt u s h r cs ns (Ex2 p f) → IsReadyAt u s h r cs ns f
+unfolding boxes
+ready-ex2 u s h r cs ns p f q = record { kept = q.kept; distinct = q.distinct; apart = q.apart; unbound = q.unbound; caught = q.caught; used = q.used }
 
-  pub substitutes-false : (a : Marks) → Substitutes s a a False False
-  substitutes-false a = record { by = λ k h. let q = fuel 0 k h in ap (λ k. sub k (visible (marked a) s) False) (sym q.is); kept = refl }
+-- what is ready for a binder is ready for a universal one
+ready-ex : (u : Unkept) (s : List Pair) (h : ℕ → Bool) (r : ℕ → Option Var) (cs : List Bool) (ns : List ℕ) (y : Var) (f : Form) → IsReadyAt u s h r cs ns (Ex y f) → IsReadyAt u s h r cs ns (All y f)
+unfolding boxes
+ready-ex u s h r cs ns y f p = record { kept = p.kept; distinct = p.distinct; apart = p.apart; unbound = p.unbound; caught = p.caught; used = p.used }
 
-  pub substitutes-equal : (a : Marks) (t u : Term) → Substitutes s a a (Equal t u) (Equal (bound_in (visible (marked a) s) t) (bound_in (visible (marked a) s) u))
-  substitutes-equal a t u = record { by = λ k h. let q = fuel 0 k h in ap (λ k. sub k (visible (marked a) s) (Equal t u)) (sym q.is); kept = refl }
-
-  pub substitutes-atom : (a : Marks) (p : Pred) (ts : Terms) → Substitutes s a a (Atom p ts) (Atom p (all_bound_in (visible (marked a) s) ts))
-  substitutes-atom a p ts = record { by = λ k h. let q = fuel 0 k h in ap (λ k. sub k (visible (marked a) s) (Atom p ts)) (sym q.is); kept = refl }
-
-  pub substitutes-not : (a b : Marks) (f r : Form) → Substitutes s a b f r → Substitutes s a b (Not f) (Not r)
-  unfolding boxes
-  substitutes-not a b f r p = record {
-    by = λ k h. let q = fuel (depth f) k h in ap Not (p.by q.less q.enough) ∙ ap (λ k. sub k (visible (marked a) s) (Not f)) (sym q.is);
-    kept = p.kept;
+module _ (u : Unkept) (s : List Pair) where
+  pub substitutes-true : (a : Walk) (t : Tally) → Substitutes u s a a t True True
+  substitutes-true a t = record {
+    is = λ k h ready right. let q = fuel 0 k h in ap (λ k. sub k (seen s a) True) (sym q.is);
+    walk = record { hidden = refl; renamed = refl; catches = refl; uses = refl };
   }
 
-  pub substitutes-and : (a b c : Marks) (f g r t : Form) → Substitutes s a b f r → Substitutes s b c g t → Substitutes s a c (And f g) (And r t)
-  unfolding boxes
-  substitutes-and a b c f g r t p o = record {
-    by = λ k h. let q = fuel (max (depth f) (depth g)) k h in
-        (λ i. And (p.by q.less (omega (arith, q.enough)) i) (again s a b c g t p.kept o q.less (omega (arith, q.enough)) i))
-        ∙ ap (λ k. sub k (visible (marked a) s) (And f g)) (sym q.is);
-    kept = o.kept ∙ p.kept;
+  pub substitutes-false : (a : Walk) (t : Tally) → Substitutes u s a a t False False
+  substitutes-false a t = record {
+    is = λ k h ready right. let q = fuel 0 k h in ap (λ k. sub k (seen s a) False) (sym q.is);
+    walk = record { hidden = refl; renamed = refl; catches = refl; uses = refl };
   }
 
-  pub substitutes-or : (a b c : Marks) (f g r t : Form) → Substitutes s a b f r → Substitutes s b c g t → Substitutes s a c (Or f g) (Or r t)
-  unfolding boxes
-  substitutes-or a b c f g r t p o = record {
-    by = λ k h. let q = fuel (max (depth f) (depth g)) k h in
-        (λ i. Or (p.by q.less (omega (arith, q.enough)) i) (again s a b c g t p.kept o q.less (omega (arith, q.enough)) i))
-        ∙ ap (λ k. sub k (visible (marked a) s) (Or f g)) (sym q.is);
-    kept = o.kept ∙ p.kept;
+  pub substitutes-equal : (a : Walk) (t : Tally) (v w v2 w2 : Term) → BindsTerm s (marked a.hidden) (new_var a.renamed) v v2 → BindsTerm s (marked a.hidden) (new_var a.renamed) w w2
+      → Substitutes u s a a t (Equal v w) (Equal v2 w2)
+  substitutes-equal a t v w v2 w2 p o = record {
+    is = λ k h ready right. let q = fuel 0 k h in
+        (λ i. Equal (p ready.apart i) (o ready.apart i)) ∙ ap (λ k. sub k (seen s a) (Equal (renewed_term (new_var a.renamed) v) (renewed_term (new_var a.renamed) w))) (sym q.is);
+    walk = record { hidden = refl; renamed = refl; catches = refl; uses = refl };
   }
 
-  pub substitutes-imp : (a b c : Marks) (f g r t : Form) → Substitutes s a b f r → Substitutes s b c g t → Substitutes s a c (Imp f g) (Imp r t)
-  unfolding boxes
-  substitutes-imp a b c f g r t p o = record {
-    by = λ k h. let q = fuel (max (depth f) (depth g)) k h in
-        (λ i. Imp (p.by q.less (omega (arith, q.enough)) i) (again s a b c g t p.kept o q.less (omega (arith, q.enough)) i))
-        ∙ ap (λ k. sub k (visible (marked a) s) (Imp f g)) (sym q.is);
-    kept = o.kept ∙ p.kept;
+  pub substitutes-atom : (a : Walk) (t : Tally) (p : Pred) (ts ts2 : Terms) → BindsTerms s (marked a.hidden) (new_var a.renamed) ts ts2 → Substitutes u s a a t (Atom p ts) (Atom p ts2)
+  substitutes-atom a t p ts ts2 o = record {
+    is = λ k h ready right. let q = fuel 0 k h in ap (Atom p) (o ready.apart) ∙ ap (λ k. sub k (seen s a) (Atom p (all_renewed (new_var a.renamed) ts))) (sym q.is);
+    walk = record { hidden = refl; renamed = refl; catches = refl; uses = refl };
   }
 
-  pub substitutes-iff : (a b c : Marks) (f g r t : Form) → Substitutes s a b f r → Substitutes s b c g t → Substitutes s a c (Iff f g) (Iff r t)
+  pub substitutes-not : (a b : Walk) (t : Tally) (f m : Form) → Substitutes u s a b t f m → Substitutes u s a b t (Not f) (Not m)
   unfolding boxes
-  substitutes-iff a b c f g r t p o = record {
-    by = λ k h. let q = fuel (max (depth f) (depth g)) k h in
-        (λ i. Iff (p.by q.less (omega (arith, q.enough)) i) (again s a b c g t p.kept o q.less (omega (arith, q.enough)) i))
-        ∙ ap (λ k. sub k (visible (marked a) s) (Iff f g)) (sym q.is);
-    kept = o.kept ∙ p.kept;
+  substitutes-not a b t f m p = record {
+    is = λ k h ready right. let q = fuel (depth f) k h in
+        ap Not (p.is q.less q.enough (ready-part u s (marked a.hidden) (new_var a.renamed) a.catches a.uses f ready) right)
+        ∙ ap (λ k. sub k (seen s a) (Not (left_of a f))) (sym q.is);
+    walk = record { hidden = p.walk.hidden; renamed = p.walk.renamed; catches = p.walk.catches; uses = p.walk.uses };
   }
 
-  pub substitutes-all : (a b : Marks) (y z : Var) (f r : Form) → SubstitutesBelow s a b y f z r → Substitutes s a b (All y f) (All z r)
+  pub substitutes-all2 : (a b : Walk) (t : Tally) (p : PVar) (f m : Form) → Substitutes u s a b t f m → Substitutes u s a b t (All2 p f) (All2 p m)
   unfolding boxes
-  substitutes-all a b y z f r p = record {
-    by = λ k h. let q = fuel (depth f) k h in (λ i. All (p.binder i) (p.body q.less q.enough i)) ∙ ap (λ k. sub k (visible (marked a) s) (All y f)) (sym q.is);
-    kept = p.kept;
+  substitutes-all2 a b t p f m o = record {
+    is = λ k h ready right. let q = fuel (depth f) k h in
+        ap (All2 p) (o.is q.less q.enough (ready-all2 u s (marked a.hidden) (new_var a.renamed) a.catches a.uses p f ready) right)
+        ∙ ap (λ k. sub k (seen s a) (All2 p (left_of a f))) (sym q.is);
+    walk = record { hidden = o.walk.hidden; renamed = o.walk.renamed; catches = o.walk.catches; uses = o.walk.uses };
   }
 
-  pub substitutes-ex : (a b : Marks) (y z : Var) (f r : Form) → SubstitutesBelow s a b y f z r → Substitutes s a b (Ex y f) (Ex z r)
+  pub substitutes-ex2 : (a b : Walk) (t : Tally) (p : PVar) (f m : Form) → Substitutes u s a b t f m → Substitutes u s a b t (Ex2 p f) (Ex2 p m)
   unfolding boxes
-  substitutes-ex a b y z f r p = record {
-    by = λ k h. let q = fuel (depth f) k h in (λ i. Ex (p.binder i) (p.body q.less q.enough i)) ∙ ap (λ k. sub k (visible (marked a) s) (Ex y f)) (sym q.is);
-    kept = p.kept;
+  substitutes-ex2 a b t p f m o = record {
+    is = λ k h ready right. let q = fuel (depth f) k h in
+        ap (Ex2 p) (o.is q.less q.enough (ready-ex2 u s (marked a.hidden) (new_var a.renamed) a.catches a.uses p f ready) right)
+        ∙ ap (λ k. sub k (seen s a) (Ex2 p (left_of a f))) (sym q.is);
+    walk = record { hidden = o.walk.hidden; renamed = o.walk.renamed; catches = o.walk.catches; uses = o.walk.uses };
   }
 
-  pub substitutes-all2 : (a b : Marks) (p : PVar) (f r : Form) → Substitutes s a b f r → Substitutes s a b (All2 p f) (All2 p r)
+  pub substitutes-all : (a b : Walk) (t : Tally) (y z : Var) (f m : Form) → SubstitutesBelow u s a b t y f z m → Substitutes u s a b t (All y f) (All z m)
   unfolding boxes
-  substitutes-all2 a b p f r o = record {
-    by = λ k h. let q = fuel (depth f) k h in ap (All2 p) (o.by q.less q.enough) ∙ ap (λ k. sub k (visible (marked a) s) (All2 p f)) (sym q.is);
-    kept = o.kept;
+  substitutes-all a b t y z f m p = record {
+    is = λ k h ready right. let q = fuel (depth f) k h in
+        (λ i. All (p.binder ready right i) (p.body q.less q.enough ready right i)) ∙ ap (λ k. sub k (seen s a) (left_of a (All y f))) (sym q.is);
+    walk = p.walk;
   }
 
-  pub substitutes-ex2 : (a b : Marks) (p : PVar) (f r : Form) → Substitutes s a b f r → Substitutes s a b (Ex2 p f) (Ex2 p r)
+  pub substitutes-ex : (a b : Walk) (t : Tally) (y z : Var) (f m : Form) → SubstitutesBelow u s a b t y f z m → Substitutes u s a b t (Ex y f) (Ex z m)
   unfolding boxes
-  substitutes-ex2 a b p f r o = record {
-    by = λ k h. let q = fuel (depth f) k h in ap (Ex2 p) (o.by q.less q.enough) ∙ ap (λ k. sub k (visible (marked a) s) (Ex2 p f)) (sym q.is);
-    kept = o.kept;
+  substitutes-ex a b t y z f m p = record {
+    is = λ k h ready right. let q = fuel (depth f) k h in
+        let all = ready-ex u s (marked a.hidden) (new_var a.renamed) a.catches a.uses y f ready in
+        (λ i. Ex (p.binder all right i) (p.body q.less q.enough all right i)) ∙ ap (λ k. sub k (seen s a) (left_of a (Ex y f))) (sym q.is);
+    walk = record { hidden = p.walk.hidden; renamed = p.walk.renamed; catches = p.walk.catches; uses = p.walk.uses };
   }
 
-  -- a binder, whose number is hidden while its body is gone through
-  pub substitutes-below : (a b c d : Marks) (y z : Var) (f r : Form) → marked b ≡ changed (marked a) y.num true → SubstitutesBody s b c y f z r
-      → marked d ≡ changed (marked c) y.num (marked a y.num) → SubstitutesBelow s a d y f z r
-  substitutes-below a b c d y z f r hide p show =
-      let same : visible (marked b) s ≡ without y.num (visible (marked a) s) = ap (λ m. visible m s) hide ∙ sym (without-visible (marked a) y.num s) in
-      record {
-        binder = p.binder ∙ ap (λ l. new_binder l y f) same;
-        body = λ k h. p.body k h ∙ ap (λ l. sub k l (new_body l y f)) same;
-        kept =
-            show ∙ ap (λ m. changed m y.num (marked a y.num)) (p.kept ∙ hide) ∙ changed-again (marked a) y.num true (marked a y.num)
-            ∙ changed-same (marked a) y.num;
-      }
-
-  -- a binder that catches nothing
-  pub substitutes-kept : (a b : Marks) (y : Var) (f r : Form) → catches (visible (marked a) s) y f ≡ false → Substitutes s a b f r → SubstitutesBody s a b y f y r
-  substitutes-kept a b y f r c o =
-      let l = visible (marked a) s in
-      record {
-        binder = sym (ap (λ b. cond b (numbered y (fresh l f)) y) c);
-        body = λ k h. o.by k h ∙ sym (ap (λ b. sub k l (cond b (renamed y.num (numbered y (fresh l f)) f) f)) c);
-        kept = o.kept;
-      }
-
-  -- a binder that gets a new number
-  pub substitutes-renamed : (a b : Marks) (y : Var) (f r : Form) (n : ℕ) → catches (visible (marked a) s) y f ≡ true → n ≡ fresh (visible (marked a) s) f
-      → Substitutes s a b (renamed y.num (numbered y n) f) r → SubstitutesBody s a b y f (numbered y n) r
-  substitutes-renamed a b y f r n c m o =
-      let l = visible (marked a) s in
-      record {
-        binder = ap (numbered y) m ∙ sym (ap (λ b. cond b (numbered y (fresh l f)) y) c);
-        body = λ k h.
-            o.by k (omega (arith, depth-renamed y.num (numbered y n) f, h)) ∙ ap (λ n. sub k l (renamed y.num (numbered y n) f)) m
-            ∙ sym (ap (λ b. sub k l (cond b (renamed y.num (numbered y (fresh l f)) f) f)) c);
-        kept = o.kept;
-      }
-
--- at first nothing is hidden
-pub substituted_all : (s : List Pair) (a b : Marks) (f r : Form) → marked a ≡ (λ n. false) → Substitutes s a b f r → (k : ℕ) → depth f ≤ k → r ≡ sub k s f
-substituted_all s a b f r e o k h = o.by k h ∙ ap (λ m. sub k (visible m s) f) e ∙ ap (λ l. sub k l f) (visible-all s)
-
-pub ruleset substitutes = (substitutes-true, substitutes-false, substitutes-equal, substitutes-atom, substitutes-not, substitutes-and, substitutes-or, substitutes-imp, substitutes-iff, substitutes-all, substitutes-ex, substitutes-all2, substitutes-ex2, substitutes-below, substitutes-kept)
+pub ruleset substitutes = (substitutes-true, substitutes-false, substitutes-equal, substitutes-atom, substitutes-not, substitutes-all, substitutes-ex, substitutes-all2, substitutes-ex2)

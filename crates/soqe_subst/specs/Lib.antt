@@ -1,5 +1,9 @@
 pub mod Substitution
 pub mod IsSub
+pub mod Renewed
+pub mod NewVars
+pub mod Standing
+pub mod Catching
 pub mod Substitutes
 pub mod PredRenaming
 pub mod Laws

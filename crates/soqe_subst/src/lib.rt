@@ -6,12 +6,16 @@
 #![tactic(auto)]
 
 mod bound_terms;
+mod catching;
 pub mod laws;
+mod new_vars;
 mod pred_renaming;
 mod renaming;
+mod standing;
 mod substitution;
 #[cfg(test)]
 mod tests;
+mod walk;
 
 pub use pred_renaming::rename_pred;
 pub use renaming::{rename, rename_boxed};

@@ -1,8 +1,5 @@
-pub mod FirstUnkept
-pub mod Ordered
-pub mod Tallied
 pub mod NumbersListed
-pub mod UsesCounted
+pub mod NumbersChanged
 pub mod TidyNumbers
 pub mod TidyBinders
 pub mod Tidied

@@ -9,20 +9,21 @@ use Rattle.soqe_term.specs.World.{changed}
 use Rattle.soqe_term.proofs.Worlds.{changed-again, changed-same}
 use Rattle.soqe_form.specs.Boxes.{boxes}
 use Rattle.soqe_form.specs.declared.form.Form.{Form, And, Or, Imp, Iff}
-use Rattle.soqe_tidy.specs.declared.unkept.Unkept.{Unkept}
-use Rattle.soqe_tidy.specs.declared.tally.Tally.{Tally}
+use Rattle.soqe_tally.specs.declared.unkept.Unkept.{Unkept}
+use Rattle.soqe_tally.specs.declared.tally.Tally.{Tally}
 use Rattle.soqe_form.specs.Marks.{IsLeastWithout}
-use Rattle.soqe_tidy.specs.Unkept.{Keeps, IsLeastBeside}
+use Rattle.soqe_tally.specs.Unkept.{Keeps, IsLeastBeside}
 use Rattle.soqe_form.specs.FreeVars.{others, free_occurrences}
 use Rattle.soqe_tidy.specs.Numbers.{new_numbers}
+use Rattle.soqe_tally.proofs.Tallied.{unknown}
 use Rattle.soqe_form.specs.Counts.{times}
-use Rattle.soqe_tidy.specs.Tallies.{Gains, IsRight, IsRightIfKnown, Finds, Leaves}
+use Rattle.soqe_tally.specs.Tallies.{Gains, IsRight, IsRightIfKnown, Finds, Leaves}
 use Rattle.soqe_tidy.specs.Tidy.{tidy_number, tidied}
-use Rattle.soqe_tidy.specs.Uses.{uses, top, under, below, AreOnTop}
+use Rattle.soqe_tally.specs.Uses.{uses, top, under, below, AreOnTop}
 use Rattle.soqe_tidy.specs.Tidies.{Tidies, TidiesPart, TidiesBelow, IsOfLarger}
 use Rattle.soqe_form.proofs.Counted.{times-append}
 use Rattle.soqe_tidy.proofs.TidyNumbers.{from_not, tidy_number-is}
-use Rattle.soqe_tidy.proofs.UsesCounted.{times-changed}
+use Rattle.soqe_tidy.proofs.NumbersChanged.{times-changed}
 
 abbrev Pairs : Type 0
 Pairs = List (ℕ × ℕ)
@@ -42,7 +43,7 @@ right-below u r x n count f a b right gains own = record {
 
 -- The binder has its number n. Its variable has that number while the body is gone through, and then its old one.
 pub tidies-below : (u : Unkept) (r s t v : Pairs) (a b c : Tally) (old mid new : List ℕ) (x : Var) (f made : Form) (n count outer : ℕ)
-    → count ≡ top old → mid ≡ under old → Finds u (new_numbers (renames r) (others x.num (free_occurrences f))) a b n
+    → count ≡ top 0 old → mid ≡ under old → Finds u (new_numbers (renames r) (others x.num (free_occurrences f))) a b n
     → outer ≡ renames r x.num → renames s ≡ changed (renames r) x.num n → (c.is_known ≡ true → Gains (λ m. cond (eqb m n) count 0) b c)
     → Tidies u s t c mid new f made → renames v ≡ changed (renames t) x.num outer → TidiesBelow u r v a old new x f (numbered x n) made
 tidies-below u r s t v a b c old mid new x f made n count outer here rest finds was set gains p back =
@@ -66,9 +67,6 @@ times-parts n r xs ys = ap (times n) (map-append (λ (y : Var). r y.num) xs ys) 
 
 times-swapped : (n : ℕ) (r : ℕ → ℕ) (xs ys : List Var) → times n (new_numbers r (xs ++ ys)) ≡ times n (new_numbers r ys) + times n (new_numbers r xs)
 times-swapped n r xs ys = let e = times-parts n r xs ys in omega (arith, e)
-
-pub unknown : (u : Unkept) (ns : List ℕ) (t : Tally) → t.is_known ≡ false → IsRightIfKnown u ns t
-unknown u ns t off on = absurd (both_ways t.is_known off on)
 
 -- the tally of the larger part, without the numbers of the smaller one
 pub larger-right : (u : Unkept) (r : ℕ → ℕ) (f g : Form) (a b : Tally) → Leaves u (new_numbers r (free_occurrences f)) a b → IsOfLarger u r f g true a b

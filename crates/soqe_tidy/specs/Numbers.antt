@@ -1,4 +1,4 @@
--- The numbers of variables.
+-- The new numbers of variables.
 use Rattle.std.specs.Prelude.{ℕ, ◌≡◌, Bool, ◌||◌, eqb, not, map, filter, List, ◌++◌, Option, Some, None}
 use Rattle.soqe_term.specs.declared.term.Var.{Var}
 use Rattle.soqe_form.specs.Marks.{marked}
@@ -6,10 +6,6 @@ use Rattle.soqe_form.specs.Marks.{marked}
 -- the new numbers of variables
 abbrev pub new_numbers : (ℕ → ℕ) → List Var → List ℕ
 new_numbers r ys = map (λ y. r y.num) ys
-
--- the numbers of variables
-abbrev pub numbers : List Var → List ℕ
-numbers ys = map (λ y. y.num) ys
 
 -- the variables that have no mark
 abbrev pub unmarked : (ℕ → Bool) → List Var → List Var

@@ -4,14 +4,14 @@ use Rattle.soqe_term.specs.declared.term.Var.{Var}
 use Rattle.soqe_term.specs.World.{changed}
 use Rattle.soqe_term.specs.Renumber.{numbered, renames}
 use Rattle.soqe_form.specs.declared.form.Form.{Form}
-use Rattle.soqe_tidy.specs.declared.unkept.Unkept.{Unkept}
-use Rattle.soqe_tidy.specs.declared.tally.Tally.{Tally}
+use Rattle.soqe_tally.specs.declared.unkept.Unkept.{Unkept}
+use Rattle.soqe_tally.specs.declared.tally.Tally.{Tally}
 use Rattle.soqe_form.specs.FreeVars.{others, free_occurrences}
 use Rattle.soqe_tidy.specs.Numbers.{new_numbers}
-use Rattle.soqe_tidy.specs.Unkept.{Keeps}
-use Rattle.soqe_tidy.specs.Tallies.{IsRightIfKnown}
+use Rattle.soqe_tally.specs.Unkept.{Keeps}
+use Rattle.soqe_tally.specs.Tallies.{IsRightIfKnown}
 use Rattle.soqe_tidy.specs.Tidy.{tidy_number, tidied}
-use Rattle.soqe_tidy.specs.Uses.{uses, top, under, below, AreOnTop}
+use Rattle.soqe_tally.specs.Uses.{uses, top, under, below, AreOnTop}
 
 -- The formula that was made is the tidied f, for the kept numbers, where the uses of its binders are on top and the tally is right,
 -- if it is known. The numbers of variables are given as before, and the uses of f are gone.
@@ -33,7 +33,7 @@ pub record TidiesPart (u : Unkept) (goes_on : Bool) (r s : List (ℕ × ℕ)) (t
 pub record TidiesBelow (u : Unkept) (r s : List (ℕ × ℕ)) (tally : Tally) (old new : List ℕ) (x : Var) (f : Form) (z : Var) (made : Form) : Type 0 where
   pub binder : (keep : List ℕ) → Keeps keep u → IsRightIfKnown u (new_numbers (renames r) (others x.num (free_occurrences f))) tally
       → z ≡ numbered x (tidy_number keep (renames r) x.num f)
-  pub body : (keep : List ℕ) → Keeps keep u → top old ≡ uses x.num f → AreOnTop f (under old)
+  pub body : (keep : List ℕ) → Keeps keep u → top 0 old ≡ uses x.num f → AreOnTop f (under old)
       → IsRightIfKnown u (new_numbers (renames r) (others x.num (free_occurrences f))) tally
       → made ≡ tidied keep (changed (renames r) x.num (tidy_number keep (renames r) x.num f)) f
   pub by : renames s ≡ renames r

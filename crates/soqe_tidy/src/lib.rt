@@ -1,20 +1,14 @@
 //! Tidy formulas: from the outside in, each binder of a variable has the least number that is neither kept out nor that of another
 //! free variable of its body.
 //!
-//! Read `specs/Tidy.antt` first: the tidy form of a formula. `specs/Laws.antt` says what it keeps. `specs/Tidies.antt` and
-//! `specs/Tallies.antt` say how it is found in n log n steps: by counts of free numbers, which go on from a formula to its larger
-//! part.
+//! Read `specs/Tidy.antt` first: the tidy form of a formula. `specs/Laws.antt` says what it keeps. `specs/Tidies.antt` says how it
+//! is found in n log n steps: by the tallies of soqe_tally, which go on from a formula to its larger part.
 #![tactic(auto)]
 
 mod free_numbers;
 pub mod laws;
-mod num_order;
-mod recent;
-mod tally;
 #[cfg(test)]
 mod tests;
 mod tidying;
-mod unkept;
-mod uses;
 
 pub use tidying::tidy;

@@ -5,17 +5,13 @@ ghost use Rattle.std.specs.Prelude.{◌≡◌, cond, eqb, true, IfOk, OnOk};
 ghost use Rattle.soqe_term.specs.Renumber.{renames};
 ghost use Rattle.soqe_form.specs.FreeVars.{free_occurrences, others};
 ghost use Rattle.soqe_tidy.specs.Numbers.{new_numbers};
-ghost use Rattle.soqe_tidy.specs.Tallies.{Knows, Leaves, Finds, Gains, IsRightAlways};
-ghost use Rattle.soqe_tidy.specs.Unkept.{IsLeastBeside};
+ghost use Rattle.soqe_tally.specs.Tallies.{Knows, Leaves, Finds, Gains};
 ghost use Rattle.soqe_tidy.specs.Tidy.{tidy as tidy_form};
 ghost use Rattle.soqe_tidy.specs.Tidies.{Tidies, TidiesPart, TidiesBelow, IsOfLarger};
 
 use crate::free_numbers::{numbers_below, numbers_of};
-use crate::recent::Recent;
-use crate::tally::Tally;
-use crate::unkept::Unkept;
-use crate::uses::{Uses, gather};
 use soqe_form::Form;
+use soqe_tally::{Recent, Tally, Unkept, Uses, gather, least_beside};
 use soqe_term::{Mem, Nums, Renaming, Var, renumber_all_own, renumber_own};
 use sqlite_items::Boxed;
 use std::alloc::Global;
@@ -41,37 +37,15 @@ pub fn tidy(alloc: Global, form: Boxed<Form>, keep: &Nums) -> Mem<Boxed<Form>>
     Ok(form)
 }
 
-/// A tally that is known to count the numbers of the list.
-fn known(alloc: Global, nums: &Nums) -> Mem<Tally>
-    ensures { IfOk result (IsRightAlways nums.now) }
-{
-    let mut tally = Tally::new(alloc);
-    tally.is_known = true;
-    tally.add_all(nums)?;
-    Ok(tally)
-}
-
 /// Makes the tally known, that of a binder of x and its body.
 fn know(alloc: Global, x: u64, form: &Boxed<Form>, by: &Renaming, tally: &mut Tally) -> Mem<()>
     ensures { OnOk result (Knows (new_numbers (renames by.now) (others x (free_occurrences form.now))) tally.old tally.new) }
 {
     if !tally.is_known {
         let nums = numbers_below(alloc, x, form.get(), by)?;
-        *tally = known(alloc, &nums)?;
+        *tally = Tally::counting(alloc, &nums)?;
     }
     Ok(())
-}
-
-/// The least number that is neither kept out nor in the list. It takes no memory where the list is short.
-fn least_beside(alloc: Global, nums: &Nums, kept: &Unkept) -> Mem<u64>
-    ensures { IfOk result (IsLeastBeside kept.now nums.now) }
-{
-    if let Some(num) = kept.first_beside(nums) {
-        return Ok(num);
-    }
-    let mut tally = known(alloc, nums)?;
-    let num = tally.least(kept);
-    Ok(num)
 }
 
 /// The number that a binder of x gets in front of the formula. Where no variable is said to be bound in the formula, no tally is

@@ -1,0 +1,4 @@
+pub mod FirstUnkept
+pub mod Ordered
+pub mod Tallied
+pub mod UsesCounted
