@@ -13,8 +13,6 @@ pub mod laws;
 mod params;
 pub mod shown_laws;
 mod steps;
-#[cfg(test)]
-mod tests;
 mod trying;
 
 pub use applying::{Acked, apply};

@@ -8,8 +8,6 @@
 mod document;
 pub mod laws;
 mod steps;
-#[cfg(test)]
-mod tests;
 mod write;
 
 pub use document::{Document, Line, Lines, Method, Stop};

@@ -10,8 +10,6 @@ pub mod laws;
 mod shown_value;
 mod steps;
 mod taking;
-#[cfg(test)]
-mod tests;
 mod tidy_case;
 
 pub use elimination::{DlsEnd, dls};

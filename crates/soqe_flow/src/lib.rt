@@ -17,7 +17,5 @@ mod derivation;
 pub mod laws;
 mod sign_blocks;
 mod simplifying;
-#[cfg(test)]
-mod tests;
 
 pub use derivation::{FlowEnd, Wanted, elim};

@@ -23,8 +23,6 @@ mod quantifiers;
 mod replace;
 mod sameness;
 mod sorting;
-#[cfg(test)]
-mod tests;
 
 pub use blocks::{BlockRef, find_block, first_block};
 pub use counts::{Counts, sum_of_counts};

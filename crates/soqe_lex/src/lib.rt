@@ -19,5 +19,3 @@ pub use lexer::lexemes;
 pub use token::{Lexemes, Token, TokenKind, TokenList};
 pub use word::{is_ordinary, is_ordinary_str};
 
-#[cfg(test)]
-mod tests;

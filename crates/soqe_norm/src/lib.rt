@@ -19,6 +19,4 @@ pub mod nnf;
 pub mod prenex;
 pub mod signs;
 mod splits;
-#[cfg(test)]
-mod tests;
 pub mod valued;

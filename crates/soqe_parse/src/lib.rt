@@ -24,5 +24,3 @@ pub use read::{ShapeError, read_problem_shape};
 pub use read_form::read_form_shape;
 pub use shape::ProblemShape;
 
-#[cfg(test)]
-mod tests;

@@ -9,8 +9,6 @@ mod arguments;
 mod fresh_names;
 pub mod laws;
 mod pred_substitution;
-#[cfg(test)]
-mod tests;
 
 pub use fresh_names::mark_own;
 pub use pred_substitution::{Replacement, pred_subst, pred_subst_by};

@@ -13,8 +13,6 @@ mod names;
 mod problems;
 mod show;
 mod terms;
-#[cfg(test)]
-mod tests;
 
 pub use formulas::write_form;
 pub use laws::{form_read_back, printed_formula, printed_problem, read_back, spelled_form_back};

@@ -18,8 +18,6 @@ mod rows;
 mod sides;
 mod simplifying;
 mod stepping;
-#[cfg(test)]
-mod tests;
 
 pub use rewriting::{Rewritten, step};
 pub use row_table::{RowTable, row_names};

@@ -13,8 +13,6 @@ mod pred_renaming;
 mod renaming;
 mod standing;
 mod substitution;
-#[cfg(test)]
-mod tests;
 mod walk;
 
 pub use pred_renaming::rename_pred;

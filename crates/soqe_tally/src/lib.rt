@@ -10,8 +10,6 @@
 mod num_order;
 mod recent;
 mod tally;
-#[cfg(test)]
-mod tests;
 mod unkept;
 mod uses;
 

@@ -24,8 +24,6 @@ mod small_map;
 mod sorts;
 mod subst;
 mod term;
-#[cfg(test)]
-mod tests;
 mod unused;
 
 pub use bindings::{Binding, Bound};

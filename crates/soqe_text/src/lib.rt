@@ -34,7 +34,3 @@ pub use problem::Problem;
 pub use reading::{Command, read_problem};
 pub use reading_form::read_form;
 
-#[cfg(test)]
-mod form_tests;
-#[cfg(test)]
-mod tests;

@@ -7,8 +7,6 @@
 
 mod free_numbers;
 pub mod laws;
-#[cfg(test)]
-mod tests;
 mod tidying;
 
 pub use tidying::tidy;
