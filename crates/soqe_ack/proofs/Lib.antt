@@ -16,5 +16,3 @@ pub mod Ackermann
 pub mod AckermannCases
 pub mod AckermannGone
 pub mod Applies
-pub mod PairedVars
-pub mod Shown

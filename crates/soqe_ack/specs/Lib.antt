@@ -7,5 +7,4 @@ pub mod Acked
 pub mod AckedLaws
 pub mod Divides
 pub mod Tries
-pub mod ShownLaws
 pub mod Applied

@@ -11,7 +11,6 @@ mod equating;
 mod guarding;
 pub mod laws;
 mod params;
-pub mod shown_laws;
 mod steps;
 mod trying;
 

@@ -1,3 +1,7 @@
+pub mod SameRenamed
+pub mod SameSubs
+pub mod PairedVars
+pub mod Shown
 mod FoldedForms
 mod FoldedTidy
 mod NewParameters

@@ -15,7 +15,7 @@ use Rattle.soqe_form.specs.Marks.{marked, Adds}
 use Rattle.soqe_psub.specs.Replaces.{is_own}
 use Rattle.soqe_ack.specs.Acked.{AreParameters}
 use Rattle.soqe_ack.specs.GuardLaws.{AreDistinct}
-use Rattle.soqe_ack.specs.Tries.{by_vars}
+use Rattle.soqe_dls.specs.ShownCases.{by_vars}
 
 -- ---- which numbers are used
 

@@ -17,7 +17,8 @@ use Rattle.soqe_norm.proofs.Counts.{cases-bare}
 use Rattle.soqe_norm.proofs.Folded.{has_blocks-any, has_blocks-case}
 use Rattle.soqe_ack.specs.declared.steps.DlsStep.{DlsStep}
 use Rattle.soqe_ack.specs.Signs.{is_pos}
-use Rattle.soqe_ack.specs.Tries.{IsTidyCase, IsTried}
+use Rattle.soqe_ack.specs.Tries.{IsTried}
+use Rattle.soqe_dls.specs.ShownCases.{IsTidyCase}
 use Rattle.soqe_ack.proofs.AckedBlocks.{acked-bare}
 use Rattle.soqe_ack.proofs.Applies.{acked-of}
 use Rattle.soqe_dls.specs.declared.elimination.DlsEnd.TheVariants as end

@@ -30,7 +30,8 @@ use Rattle.soqe_norm.proofs.CaseTruth.{alike-are}
 use Rattle.soqe_norm.proofs.Folded.{any_passes, all_pass, truth-any, sorted-any}
 use Rattle.soqe_ack.specs.declared.steps.DlsStep.{DlsStep}
 use Rattle.soqe_ack.specs.Signs.{is_pos}
-use Rattle.soqe_ack.specs.Tries.{IsTidyCase, IsTried}
+use Rattle.soqe_ack.specs.Tries.{IsTried}
+use Rattle.soqe_dls.specs.ShownCases.{IsTidyCase}
 use Rattle.soqe_ack.proofs.AckermannCases.{ackermann}
 use Rattle.soqe_ack.proofs.AckedSorts.{form-is-sorted}
 use Rattle.soqe_ack.proofs.Applies.{acked-of}

@@ -20,9 +20,10 @@ use Rattle.soqe_ack.specs.declared.steps.DlsStep.TheVariants as step
 use Rattle.soqe_ack.specs.declared.steps.Sign.{Sign}
 use Rattle.soqe_ack.specs.declared.steps.Sign.TheVariants.{Pos, Neg}
 use Rattle.soqe_ack.specs.Signs.{is_pos}
-use Rattle.soqe_ack.specs.Tries.{IsTidyCase, IsTried, positive, negative, IsNotReached, IsShown}
+use Rattle.soqe_ack.specs.Tries.{IsTried, positive, negative, IsNotReached}
+use Rattle.soqe_dls.specs.ShownCases.{IsTidyCase, IsShown}
 use Rattle.soqe_ack.proofs.AckedDecided.{acked-one, not-both}
-use Rattle.soqe_ack.proofs.Shown.{one-shown}
+use Rattle.soqe_dls.proofs.Shown.{one-shown}
 use Rattle.soqe_dls.specs.declared.elimination.DlsEnd.{DlsEnd}
 use Rattle.soqe_dls.specs.declared.elimination.DlsEnd.TheVariants as end
 use Rattle.soqe_dls.specs.Runs.{Outcome, Reached, NotReached, after, IsRun, no_more, reached, stops, EndsRun, IsAnswer}

@@ -1,3 +1,5 @@
+pub mod ShownCases
+pub mod ShownLaws
 pub mod Runs
 pub mod RunLaws
 pub mod Parts

@@ -12,7 +12,8 @@ use Rattle.soqe_ack.specs.declared.steps.DlsStep.TheVariants as step
 use Rattle.soqe_ack.specs.declared.steps.Sign.{Sign}
 use Rattle.soqe_ack.specs.declared.trying.Tried.{Tried}
 use Rattle.soqe_ack.specs.Signs.{is_pos}
-use Rattle.soqe_ack.specs.Tries.{IsTidyCase, IsTried, IsNotReached, IsShown}
+use Rattle.soqe_ack.specs.Tries.{IsTried, IsNotReached}
+use Rattle.soqe_dls.specs.ShownCases.{IsTidyCase, IsShown}
 
 -- the root of the formula is `&`
 abbrev pub is_conjunction : Form → Bool

@@ -12,7 +12,8 @@ use Rattle.soqe_form.specs.Sorted.{sorted}
 use Rattle.soqe_norm.specs.declared.case_list.Case.{Case}
 use Rattle.soqe_norm.specs.CasesLaws.{AreCases}
 use Rattle.soqe_ack.specs.declared.steps.DlsStep.{DlsStep}
-use Rattle.soqe_ack.specs.Tries.{IsTidyCase, IsNotReached}
+use Rattle.soqe_ack.specs.Tries.{IsNotReached}
+use Rattle.soqe_dls.specs.ShownCases.{IsTidyCase}
 use Rattle.soqe_dls.specs.declared.elimination.DlsEnd.{DlsEnd}
 use Rattle.soqe_dls.specs.declared.elimination.DlsEnd.TheVariants as end
 use Rattle.soqe_dls.specs.Runs.{IsAnswer}

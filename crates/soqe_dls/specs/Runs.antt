@@ -12,7 +12,8 @@ use Rattle.soqe_ack.specs.declared.steps.Sign.{Sign}
 use Rattle.soqe_ack.specs.declared.steps.DlsStep.{DlsStep}
 use Rattle.soqe_ack.specs.declared.steps.DlsStep.TheVariants as step
 use Rattle.soqe_ack.specs.Signs.{is_pos}
-use Rattle.soqe_ack.specs.Tries.{IsTidyCase, IsTried, IsNotReached, IsShown}
+use Rattle.soqe_ack.specs.Tries.{IsTried, IsNotReached}
+use Rattle.soqe_dls.specs.ShownCases.{IsTidyCase, IsShown}
 use Rattle.soqe_dls.specs.declared.elimination.DlsEnd.{DlsEnd}
 use Rattle.soqe_dls.specs.declared.elimination.DlsEnd.TheVariants as end
 

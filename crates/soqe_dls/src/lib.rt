@@ -7,6 +7,7 @@
 
 mod elimination;
 pub mod laws;
+pub mod shown_laws;
 mod shown_value;
 mod steps;
 mod taking;

@@ -7,7 +7,7 @@ ghost use Rattle.soqe_form.specs.FreeVars.{is_among};
 ghost use Rattle.soqe_form.specs.Marks.{marked};
 ghost use Rattle.soqe_ack.specs.Acked.{AreParameters};
 ghost use Rattle.soqe_ack.specs.GuardLaws.{AreDistinct};
-ghost use Rattle.soqe_ack.specs.Tries.{IsShown, by_vars};
+ghost use Rattle.soqe_dls.specs.ShownCases.{IsShown, by_vars};
 
 use soqe_form::{Form, Marks, mark_numbers};
 use soqe_psub::mark_own;

@@ -2,7 +2,7 @@
 
 ghost use Rattle.std.specs.Prelude.{◌≡◌, length, IfOk};
 ghost use Rattle.soqe_norm.specs.Folds.{case_form as form_of};
-ghost use Rattle.soqe_ack.specs.Tries.{IsTidyCase};
+ghost use Rattle.soqe_dls.specs.ShownCases.{IsTidyCase};
 ghost use Rattle.soqe_dls.specs.Parts.{IsOfCase};
 
 use crate::taking::{take_conjuncts, take_vars};

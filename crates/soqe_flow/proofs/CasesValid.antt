@@ -26,11 +26,12 @@ use Rattle.soqe_ack.specs.declared.steps.DlsStep.TheVariants as step
 use Rattle.soqe_ack.specs.Acked.{IsAcked, is_used}
 use Rattle.soqe_ack.specs.AckedLaws.{below}
 use Rattle.soqe_ack.specs.Signs.{is_pos}
-use Rattle.soqe_ack.specs.Tries.{IsTidyCase, positive, negative, IsShown}
+use Rattle.soqe_ack.specs.Tries.{positive, negative}
+use Rattle.soqe_dls.specs.ShownCases.{IsTidyCase, IsShown}
 use Rattle.soqe_ack.proofs.AckedSorts.{value-is-sorted}
 use Rattle.soqe_ack.proofs.Applies.{acked-of}
 use Rattle.soqe_ack.proofs.ParameterNumbers.{parameters-distinct}
-use Rattle.soqe_ack.proofs.Shown.{shown-same, shown-distinct}
+use Rattle.soqe_dls.proofs.Shown.{shown-same, shown-distinct}
 use Rattle.soqe_dls.specs.Runs.{Outcome, Reached, NotReached, after, IsRun, no_more, reached, stops}
 use Rattle.soqe_text.specs.declared.problem.Problem.{Problem}
 use Rattle.soqe_deriv.specs.declared.document.Line.TheVariants as line

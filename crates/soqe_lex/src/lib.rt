@@ -18,4 +18,3 @@ pub use laws::{one_way, ordinary, spans};
 pub use lexer::lexemes;
 pub use token::{Lexemes, Token, TokenKind, TokenList};
 pub use word::{is_ordinary, is_ordinary_str};
-

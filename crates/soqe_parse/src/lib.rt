@@ -23,4 +23,3 @@ pub use laws::{fault_or_problem, form_or_fault, one_place, one_problem, problem_
 pub use read::{ShapeError, read_problem_shape};
 pub use read_form::read_form_shape;
 pub use shape::ProblemShape;
-

@@ -10,9 +10,6 @@ use sqlite_items::Boxed;
 use std::alloc::Global;
 use std::marker::Model;
 
-#[cfg(test)]
-mod tests;
-
 /// New numbers for variables; a number without an entry stays. Contracts ask it by `renames`. Up to eight numbers take no memory.
 #[derive(Drop)]
 pub struct Renaming {

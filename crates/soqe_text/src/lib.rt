@@ -33,4 +33,3 @@ pub use lexing::{TextFault, tokens};
 pub use problem::Problem;
 pub use reading::{Command, read_problem};
 pub use reading_form::read_form;
-

@@ -5,5 +5,3 @@ pub mod TidyBinders
 pub mod Tidied
 pub mod TidiedAgain
 pub mod TidiedBlocks
-pub mod SameRenamed
-pub mod SameSubs

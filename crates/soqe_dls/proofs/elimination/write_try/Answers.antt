@@ -3,7 +3,7 @@ use Rattle.soqe_form.specs.declared.form.Form.{Form}
 use Rattle.soqe_form.specs.declared.form.Pred.TheVariants.{Bound}
 use Rattle.soqe_ack.specs.declared.steps.DlsStep.{DlsStep}
 use Rattle.soqe_ack.specs.declared.steps.DlsStep.TheVariants as step
-use Rattle.soqe_ack.specs.Tries.{IsShown}
+use Rattle.soqe_dls.specs.ShownCases.{IsShown}
 use Rattle.soqe_dls.proofs.elimination.write_try.Goals as goal
 
 pub returns : goal.returns

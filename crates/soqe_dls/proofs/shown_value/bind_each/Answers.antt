@@ -3,7 +3,7 @@ use Rattle.std.proofs.lemmas.List.{take_more, length-take}
 use Rattle.soqe_term.specs.Bindings.{bound_term}
 use Rattle.soqe_term.specs.declared.term.Var.{Var}
 use Rattle.soqe_term.specs.declared.term.Term.{Var as var}
-use Rattle.soqe_ack.specs.Tries.{by_vars}
+use Rattle.soqe_dls.specs.ShownCases.{by_vars}
 use Rattle.soqe_dls.proofs.NewParameters.{by_vars-push, distinct-front, none-bound}
 use Rattle.soqe_dls.proofs.shown_value.bind_each.Goals as goal
 

@@ -1,5 +1,5 @@
 use Rattle.std.proofs.Common.{◌≡◌, take}
-use Rattle.soqe_ack.specs.Tries.{by_vars}
+use Rattle.soqe_dls.specs.ShownCases.{by_vars}
 use Rattle.soqe_dls.proofs.shown_value.bind_each.Given as goal
 
 abbrev pub invariant-loop-place : goal.invariant-loop-place

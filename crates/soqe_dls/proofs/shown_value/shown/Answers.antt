@@ -9,7 +9,7 @@ use Rattle.soqe_form.specs.Mentions.{depth}
 use Rattle.soqe_subst.specs.Substitution.{sub}
 use Rattle.soqe_tidy.specs.Tidy.{tidy}
 use Rattle.soqe_ack.specs.Acked.{AreParameters}
-use Rattle.soqe_ack.specs.Tries.{by_vars}
+use Rattle.soqe_dls.specs.ShownCases.{by_vars}
 use Rattle.soqe_dls.proofs.NewParameters.{parameters-many}
 use Rattle.soqe_dls.proofs.shown_value.shown.Goals as goal
 

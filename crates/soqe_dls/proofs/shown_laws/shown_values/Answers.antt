@@ -1,5 +1,5 @@
-use Rattle.soqe_ack.proofs.Shown.{shown-same, shown-sorted, shown-distinct, one-shown}
-use Rattle.soqe_ack.proofs.shown_laws.shown_values.Goals as goal
+use Rattle.soqe_dls.proofs.Shown.{shown-same, shown-sorted, shown-distinct, one-shown}
+use Rattle.soqe_dls.proofs.shown_laws.shown_values.Goals as goal
 
 pub returns-clause-same : goal.returns-clause-same
 returns-clause-same c = shown-same

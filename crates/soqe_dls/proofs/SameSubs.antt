@@ -34,7 +34,7 @@ use Rattle.soqe_form.proofs.Sortings.{sorted-agree}
 use Rattle.soqe_subst.proofs.SubstitutedSorts.{sorted-renamed, others-kept, others-renamed}
 use Rattle.soqe_subst.proofs.Substitutions.{IsFresh, fresh-is}
 use Rattle.soqe_form.proofs.SameFronts.{Pairs, lefts, twins, twins-diagonal, fit-first, fit-under, same_in-chained}
-use Rattle.soqe_tidy.proofs.SameRenamed.{NamesSame, names-left, names-right, same_term-bound, same_atom-bound, Puts, same-renamed}
+use Rattle.soqe_dls.proofs.SameRenamed.{NamesSame, names-left, names-right, same_term-bound, same_atom-bound, Puts, same-renamed}
 
 -- ---- one more pair
 

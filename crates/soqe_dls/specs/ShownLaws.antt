@@ -9,7 +9,8 @@ use Rattle.soqe_form.specs.Same.{same}
 use Rattle.soqe_form.specs.Sorted.{sorted}
 use Rattle.soqe_ack.specs.AckedLaws.{below}
 use Rattle.soqe_ack.specs.GuardLaws.{AreDistinct}
-use Rattle.soqe_ack.specs.Tries.{for_all, IsShown}
+use Rattle.soqe_ack.specs.Tries.{for_all}
+use Rattle.soqe_dls.specs.ShownCases.{IsShown}
 
 -- with the parameters in front, the value and what is shown of it are the same formula, where the value is well sorted below
 -- its parameters

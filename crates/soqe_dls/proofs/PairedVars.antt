@@ -21,9 +21,10 @@ use Rattle.soqe_subst.specs.Substitution.{sub}
 use Rattle.soqe_psub.specs.PredSubstLaws.{with_params}
 use Rattle.soqe_ack.specs.AckedLaws.{sorts_below, below}
 use Rattle.soqe_ack.specs.GuardLaws.{AreDistinct}
-use Rattle.soqe_ack.specs.Tries.{by_vars, for_all}
+use Rattle.soqe_ack.specs.Tries.{for_all}
+use Rattle.soqe_dls.specs.ShownCases.{by_vars}
 use Rattle.soqe_form.proofs.SameFronts.{Pairs}
-use Rattle.soqe_tidy.proofs.SameSubs.{off_pair, at_pair, same-sub}
+use Rattle.soqe_dls.proofs.SameSubs.{off_pair, at_pair, same-sub}
 
 -- ---- pairs of variables
 

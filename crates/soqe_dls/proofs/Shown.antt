@@ -22,10 +22,11 @@ use Rattle.soqe_tidy.proofs.Tidied.{same-tidied}
 use Rattle.soqe_ack.specs.Acked.{AreParameters}
 use Rattle.soqe_ack.specs.AckedLaws.{below}
 use Rattle.soqe_ack.specs.GuardLaws.{AreDistinct}
-use Rattle.soqe_ack.specs.Tries.{by_vars, for_all, IsShown}
+use Rattle.soqe_ack.specs.Tries.{for_all}
+use Rattle.soqe_dls.specs.ShownCases.{by_vars, IsShown}
 use Rattle.soqe_ack.proofs.ParameterNumbers.{parameters-unused, parameters-distinct, one-parameters}
 use Rattle.soqe_form.proofs.SameFronts.{Pairs, rights, twins, twins-diagonal, same_in-turned, fit-last, same_in-chained}
-use Rattle.soqe_ack.proofs.PairedVars.{HaveSameSorts, paired, same-by_vars, same-for_all, sorted-for_all}
+use Rattle.soqe_dls.proofs.PairedVars.{HaveSameSorts, paired, same-by_vars, same-for_all, sorted-for_all}
 
 -- ---- the parameters that are shown
 
