@@ -3,7 +3,7 @@
 //! `x0 = x0`, `x`, `y` and `z` are `x1 = x2`, `x2 = x3` and `x0 = f(x1)`; `t` and `f` are true and false; `~`, `&`, `|`, `>`
 //! and `=` join what stands before them; `a` and `b` are `all` with the variables 0 and 1, `e` and `g` are `ex` with them; `A`
 //! and `E` bind the predicate 0.
-use soqe_simp::{RowTable, row_names, simplify, step};
+use soqe_simp::{RowTable, row_names, simplify, simplify_owned, step};
 use soqe_form::make::{
     conjunction, disjunction, equation, equivalence, exists, exists_table, for_all, for_all_tables,
     implication, negation,
@@ -118,7 +118,7 @@ fn steps(alloc: Global, text: &[u8], row: u8, wanted: &[u8]) -> Mem<bool> {
 fn simplifies(alloc: Global, text: &[u8], wanted: &[u8]) -> Mem<bool> {
     let f = made(alloc, text)?;
     let g = made(alloc, wanted)?;
-    let simple = simplify(alloc, f)?;
+    let simple = simplify_owned(alloc, f)?;
     Ok(same(simple.get(), g.get()))
 }
 
@@ -256,6 +256,32 @@ fn makes_simple(rt: HostRuntime) -> Result<(), Fail> {
     Ok(())
 }
 
+/// Whether the lent formula is made simple, and is afterwards as it was.
+fn simplifies_lent(alloc: Global, text: &[u8], wanted: &[u8]) -> Mem<bool> {
+    let f = made(alloc, text)?;
+    let before = made(alloc, text)?;
+    let g = made(alloc, wanted)?;
+    let simple = simplify(alloc, f.get())?;
+    Ok(same(simple.get(), g.get()) && same(f.get(), before.get()))
+}
+
+#[test]
+fn makes_a_lent_formula_simple(rt: HostRuntime) -> Result<(), Fail> {
+    let alloc = rt.alloc();
+    let cases: [(&[u8], &[u8]); 6] = [
+        (b"d", b"d"),
+        (b"t~d|", b"d"),
+        (b"u0&e", b"1"),
+        (b"dd~&0&E", b"f"),
+        (b"v0>ba", b"0a"),
+        (b"dba", b"d"),
+    ];
+    for (text, wanted) in cases {
+        assert!(rt; simplifies_lent(alloc, text, wanted)?);
+    }
+    Ok(())
+}
+
 /// The formula behind `all` or `ex` with the variables of the digits, written as pairs, the outermost first.
 fn behind(alloc: Global, chain: &[u8], text: &[u8]) -> Mem<Boxed<Form>> {
     let mut form = made(alloc, text)?;
@@ -273,7 +299,7 @@ fn behind(alloc: Global, chain: &[u8], text: &[u8]) -> Mem<Boxed<Form>> {
 fn leaves(alloc: Global, text: (&[u8], &[u8]), wanted: (&[u8], &[u8])) -> Mem<bool> {
     let f = behind(alloc, text.0, text.1)?;
     let g = behind(alloc, wanted.0, wanted.1)?;
-    let simple = simplify(alloc, f)?;
+    let simple = simplify_owned(alloc, f)?;
     Ok(same(simple.get(), g.get()))
 }
 

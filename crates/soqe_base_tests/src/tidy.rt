@@ -1,5 +1,5 @@
 //! Tidy forms of formulas written by hand.
-use soqe_tidy::tidy;
+use soqe_tidy::{tidy, tidy_owned};
 use soqe_form::{Form, PVar, Pred, make};
 use soqe_term::{Mem, Nums, Sorts, Term, Terms, Var};
 use sqlite_items::Boxed;
@@ -62,8 +62,16 @@ fn numbers(form: &Form) -> Option<[u64; 4]> {
 fn becomes(alloc: Global, old: [u64; 4], keep: &[u64], new: [u64; 4]) -> Mem<bool> {
     let keep = Nums::from_vec(keep.to_vec(alloc)?);
     let form = quantified(alloc, old)?;
-    let form = tidy(alloc, form, &keep)?;
+    let form = tidy_owned(alloc, form, &keep)?;
     Ok(numbers(form.get()) == Some(new))
+}
+
+/// Whether a lent formula of the first numbers becomes that of the second ones, and is afterwards as it was.
+fn becomes_lent(alloc: Global, old: [u64; 4], keep: &[u64], new: [u64; 4]) -> Mem<bool> {
+    let keep = Nums::from_vec(keep.to_vec(alloc)?);
+    let form = quantified(alloc, old)?;
+    let made = tidy(alloc, form.get(), &keep)?;
+    Ok(numbers(made.get()) == Some(new) && numbers(form.get()) == Some(old))
 }
 
 /// Whether this is `ex2 P7. P7`.
@@ -96,6 +104,21 @@ fn an_outer_binder_has_its_number_first(rt: HostRuntime) -> Result<(), Fail> {
 }
 
 #[test]
+fn a_lent_formula_stays(rt: HostRuntime) -> Result<(), Fail> {
+    let alloc = rt.alloc();
+    let cases: [([u64; 4], &[u64], [u64; 4]); 4] = [
+        ([5, 6, 5, 6], &[], [0, 1, 0, 1]),
+        ([0, 1, 0, 1], &[], [0, 1, 0, 1]),
+        ([5, 6, 5, 6], &[3, 0], [1, 2, 1, 2]),
+        ([5, 6, 0, 6], &[], [1, 1, 0, 1]),
+    ];
+    for (old, keep, new) in cases {
+        assert!(rt; becomes_lent(alloc, old, keep, new)?);
+    }
+    Ok(())
+}
+
+#[test]
 fn binders_of_predicates_stay(rt: HostRuntime) -> Result<(), Fail> {
     let alloc = rt.alloc();
     let atom = Boxed::new(alloc, Form::Atom(Pred::Bound(7), Terms::Nil))?;
@@ -104,7 +127,7 @@ fn binders_of_predicates_stay(rt: HostRuntime) -> Result<(), Fail> {
         args: Sorts::new(alloc),
     };
     let block = make::exists_table(alloc, pred, atom)?;
-    let block = tidy(alloc, block, &Nums::new(alloc))?;
+    let block = tidy_owned(alloc, block, &Nums::new(alloc))?;
     assert!(rt; is_block(block.get()));
     Ok(())
 }
@@ -135,7 +158,7 @@ fn a_binder_over_many_free_variables_has_the_least_other_number(
     ];
     for (count, left_out, new) in cases {
         let form = over_many(alloc, 200, count, left_out)?;
-        let form = tidy(alloc, form, &Nums::new(alloc))?;
+        let form = tidy_owned(alloc, form, &Nums::new(alloc))?;
         match form.get() {
             Form::All(x, _) => assert!(rt; x.num == new),
             _ => assert!(rt; false),

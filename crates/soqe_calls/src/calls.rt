@@ -18,10 +18,10 @@ use soqe_form::{Form, Pred, copy_boxed, free_vars, same};
 use soqe_norm::apart::apart;
 use soqe_norm::cases::cases;
 use soqe_norm::nnf::nnf;
-use soqe_simp::simplify;
+use soqe_simp::simplify_owned;
 use soqe_subst::subst;
 use soqe_term::{Mem, Nums, least_unused};
-use soqe_tidy::tidy;
+use soqe_tidy::tidy_owned;
 use sqlite_items::Boxed;
 use std::alloc::Global;
 
@@ -112,7 +112,7 @@ fn tidied(alloc: Global, form: &Boxed<Form>) -> Mem<u64>
 {
     let keep = Nums::new(alloc);
     let copy = copy_boxed(alloc, form)?;
-    let made = tidy(alloc, copy, &keep)?;
+    let made = tidy_owned(alloc, copy, &keep)?;
     count(&made)
 }
 
@@ -144,7 +144,7 @@ fn simplified(alloc: Global, form: &Boxed<Form>) -> Mem<u64>
     ensures { IfOk result (λ n. n ≡ nodes_of (simple form.now)) }
 {
     let copy = copy_boxed(alloc, form)?;
-    let made = simplify(alloc, copy)?;
+    let made = simplify_owned(alloc, copy)?;
     count(&made)
 }
 

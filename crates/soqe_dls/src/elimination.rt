@@ -15,7 +15,7 @@ use soqe_norm::case_list::{Case, CaseList};
 use soqe_norm::cases::cases;
 use soqe_norm::folding::{case_form, made_or, or_next};
 use soqe_term::{Mem, Nums};
-use soqe_tidy::tidy;
+use soqe_tidy::tidy_owned;
 use sqlite_items::Boxed;
 use std::alloc::Global;
 
@@ -125,7 +125,7 @@ fn write_try(
     ensures { IfOk result (λ form. WritesTry keep.now pred.now tried steps.old steps.new form) }
 {
     let shown = shown(alloc, &tried.params, tried.value.get(), keep)?;
-    let form = tidy(alloc, tried.form, keep)?;
+    let form = tidy_owned(alloc, tried.form, keep)?;
     let gives = copy_boxed(alloc, &form)?;
     steps.push(DlsStep::Ack {
         sign: tried.sign,

@@ -13,7 +13,7 @@ use soqe_form::{Form, Marks, mark_numbers};
 use soqe_psub::mark_own;
 use soqe_subst::subst_all;
 use soqe_term::{Binding, Mem, Nums, Term, Var, Vars};
-use soqe_tidy::tidy;
+use soqe_tidy::tidy_owned;
 use sqlite_items::Boxed;
 use std::alloc::Global;
 
@@ -25,7 +25,7 @@ pub(crate) struct ShownValue {
 }
 
 /// The value as it is shown: from first to last, its parameters get the least numbers that are neither kept, nor free in it apart
-/// from the parameters, nor an earlier parameter's; then it is tidy. It takes the time and memory of a copy and of `tidy`, and
+/// from the parameters, nor an earlier parameter's; then it is tidy. It takes the time and memory of a copy and of `tidy_owned`, and
 /// recurses as deep as the value.
 pub(crate) fn shown(alloc: Global, params: &Vars, value: &Form, keep: &Nums) -> Mem<ShownValue>
     requires { AreDistinct params.now }
@@ -35,7 +35,7 @@ pub(crate) fn shown(alloc: Global, params: &Vars, value: &Form, keep: &Nums) -> 
     let new = least_numbers(alloc, params.as_slice(), &mut used)?;
     let binding = bind_each(alloc, params.as_slice(), new.as_slice())?;
     let replaced = subst_all(alloc, value, &binding)?;
-    let tidied = tidy(alloc, replaced, keep)?;
+    let tidied = tidy_owned(alloc, replaced, keep)?;
     Ok(ShownValue {
         params: new,
         value: tidied,

@@ -10,11 +10,11 @@ use soqe_form::Form;
 use soqe_norm::case_list::Case;
 use soqe_norm::folding::case_form;
 use soqe_term::{Mem, Nums};
-use soqe_tidy::tidy;
+use soqe_tidy::tidy_owned;
 use sqlite_items::Boxed;
 use std::alloc::Global;
 
-/// The case whose formula is tidy. Its parts are moved: it takes the time and memory of `tidy`, and for each variable and each
+/// The case whose formula is tidy. Its parts are moved: it takes the time and memory of `tidy_owned`, and for each variable and each
 /// conjunct those of a node and of a place in a list. It recurses as deep as its formula.
 pub(crate) fn tidy_case(alloc: Global, case: Case, keep: &Nums) -> Mem<Case>
     ensures { IfOk result (λ r. IsTidyCase keep.now case.vars case.conj r.vars r.conj) }
@@ -22,7 +22,7 @@ pub(crate) fn tidy_case(alloc: Global, case: Case, keep: &Nums) -> Mem<Case>
     let variables = case.vars.as_slice().len();
     let conjuncts = case.conj.len();
     let form = case_form(alloc, case)?;
-    let form = tidy(alloc, form, keep)?;
+    let form = tidy_owned(alloc, form, keep)?;
     take_case(alloc, form, variables, conjuncts)
 }
 

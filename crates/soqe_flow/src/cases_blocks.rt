@@ -16,7 +16,7 @@ use soqe_dls::{DlsEnd, DlsSteps, dls};
 use soqe_form::{BlockRef, Form};
 use soqe_norm::nnf::nnf;
 use soqe_term::{Mem, Nums};
-use soqe_tidy::tidy;
+use soqe_tidy::tidy_owned;
 use sqlite_items::Boxed;
 use std::alloc::Global;
 
@@ -56,7 +56,7 @@ fn normal(alloc: Global, block: &BlockRef, keep: &Nums) -> Mem<Boxed<Form>>
     ensures { IfOk result (λ f. f ≡ normal_of keep.now (seen block.now)) }
 {
     let form = nnf(alloc, block.body, !block.exists)?;
-    tidy(alloc, form, keep)
+    tidy_owned(alloc, form, keep)
 }
 
 /// What takes the block's place where its cases have come to the answer.

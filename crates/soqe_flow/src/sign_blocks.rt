@@ -17,7 +17,7 @@ use soqe_form::{BlockRef, Form, Pred, copy_boxed};
 use soqe_norm::signs::first_signs;
 use soqe_norm::valued::{value_for, valued};
 use soqe_term::{Mem, Nums};
-use soqe_tidy::tidy;
+use soqe_tidy::tidy_owned;
 use sqlite_items::Boxed;
 use std::alloc::{AllocError, Global};
 
@@ -70,7 +70,7 @@ fn replaced(alloc: Global, block: &BlockRef, value: bool, keep: &Nums) -> Mem<Bo
     ensures { IfOk result (λ f. f ≡ replaced_of keep.now (seen block.now) value) }
 {
     let form = valued(alloc, block.body, block.pred.num, value)?;
-    tidy(alloc, form, keep)
+    tidy_owned(alloc, form, keep)
 }
 
 /// The last lines of a block that has both signs, and its stop.

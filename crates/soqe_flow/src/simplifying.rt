@@ -3,10 +3,10 @@ ghost use Rattle.std.specs.Prelude.{◌≡◌, map, IfOk};
 ghost use Rattle.soqe_deriv.specs.Valid.{kept as kept_of, simplified as simplified_of};
 
 use soqe_form::Form;
-use soqe_simp::simplify;
+use soqe_simp::simplify_owned;
 use soqe_term::{Mem, Nums, Var};
 use soqe_text::Problem;
-use soqe_tidy::tidy;
+use soqe_tidy::tidy_owned;
 use sqlite_items::Boxed;
 use std::alloc::Global;
 
@@ -38,6 +38,6 @@ fn numbers(alloc: Global, vars: &[Var]) -> Mem<Nums>
 pub(crate) fn simplified(alloc: Global, form: Boxed<Form>, keep: &Nums) -> Mem<Boxed<Form>>
     ensures { IfOk result (λ r. r ≡ simplified_of keep.now form) }
 {
-    let simple = simplify(alloc, form)?;
-    tidy(alloc, simple, keep)
+    let simple = simplify_owned(alloc, form)?;
+    tidy_owned(alloc, simple, keep)
 }

@@ -21,4 +21,4 @@ mod stepping;
 
 pub use rewriting::{Rewritten, step};
 pub use row_table::{RowTable, row_names};
-pub use simplifying::simplify;
+pub use simplifying::{simplify, simplify_owned};

@@ -21,6 +21,16 @@ use std::alloc::Global;
 /// Shorter chains are put back without finding out what is known of the formula behind them.
 const FEW: usize = 4;
 
+/// What `simplify_owned` makes of the formula, which stays as it is. It copies the formula, each node and term anew, and the copy is
+/// taken apart: it takes the time, memory and depth of a copy on top of those of `simplify_owned`.
+pub fn simplify(alloc: Global, form: &Form) -> Mem<Boxed<Form>>
+    ensures exact { IfOk result (λ r. r ≡ simple form.now) }
+{
+    let copy = form.copy(alloc)?;
+    let copy = Boxed::new(alloc, copy)?;
+    simplify_owned(alloc, copy)
+}
+
 /// The formula made simple: its children first, from left to right; then the first row that applies at the root, and what
 /// it gives made simple. Where no row applies at the root, that is the end.
 ///
@@ -30,7 +40,7 @@ const FEW: usize = 4;
 /// quantifiers look for names and equations in their bodies, so that the time can be the square of the formula's size. It recurses
 /// as deep as the formula, where a chain of quantifiers counts as one unless rows 35 to 37 search it: they go down it by recursion.
 #[cycle(simplify)]
-pub fn simplify(alloc: Global, form: Boxed<Form>) -> Mem<Boxed<Form>>
+pub fn simplify_owned(alloc: Global, form: Boxed<Form>) -> Mem<Boxed<Form>>
     ensures exact { IfOk result (λ r. r ≡ simple form) }
 {
     if is_quantified(form.get()) {
@@ -60,43 +70,43 @@ fn step_at_root(alloc: Global, form: Boxed<Form>) -> Mem<Stepped>
         Form::Equal(s, t) => take_step(alloc, Form::Equal(s, t)),
         Form::Atom(p, ts) => take_step(alloc, Form::Atom(p, ts)),
         Form::Not(f) => {
-            let f = simplify(alloc, f)?;
+            let f = simplify_owned(alloc, f)?;
             take_step(alloc, Form::Not(f))
         }
         Form::And(f, g) => {
-            let f = simplify(alloc, f)?;
-            let g = simplify(alloc, g)?;
+            let f = simplify_owned(alloc, f)?;
+            let g = simplify_owned(alloc, g)?;
             take_step(alloc, Form::And(f, g))
         }
         Form::Or(f, g) => {
-            let f = simplify(alloc, f)?;
-            let g = simplify(alloc, g)?;
+            let f = simplify_owned(alloc, f)?;
+            let g = simplify_owned(alloc, g)?;
             take_step(alloc, Form::Or(f, g))
         }
         Form::Imp(f, g) => {
-            let f = simplify(alloc, f)?;
-            let g = simplify(alloc, g)?;
+            let f = simplify_owned(alloc, f)?;
+            let g = simplify_owned(alloc, g)?;
             take_step(alloc, Form::Imp(f, g))
         }
         Form::Iff(f, g) => {
-            let f = simplify(alloc, f)?;
-            let g = simplify(alloc, g)?;
+            let f = simplify_owned(alloc, f)?;
+            let g = simplify_owned(alloc, g)?;
             take_step(alloc, Form::Iff(f, g))
         }
         Form::All(x, f) => {
-            let f = simplify(alloc, f)?;
+            let f = simplify_owned(alloc, f)?;
             take_step(alloc, Form::All(x, f))
         }
         Form::Ex(x, f) => {
-            let f = simplify(alloc, f)?;
+            let f = simplify_owned(alloc, f)?;
             take_step(alloc, Form::Ex(x, f))
         }
         Form::All2(p, f) => {
-            let f = simplify(alloc, f)?;
+            let f = simplify_owned(alloc, f)?;
             take_step(alloc, Form::All2(p, f))
         }
         Form::Ex2(p, f) => {
-            let f = simplify(alloc, f)?;
+            let f = simplify_owned(alloc, f)?;
             take_step(alloc, Form::Ex2(p, f))
         }
     }
@@ -137,7 +147,7 @@ fn settle_made(alloc: Global, made: Rewritten) -> Mem<Boxed<Form>>
         return settle_first(alloc, made.form);
     }
     if is_anew(made.row) {
-        return simplify(alloc, made.form);
+        return simplify_owned(alloc, made.form);
     }
     Ok(made.form)
 }
@@ -196,7 +206,7 @@ fn simplify_chain(alloc: Global, outermost: Quantifier, form: Boxed<Form>) -> Me
     let mut chain = Vec::new(alloc);
     chain.push(outermost)?;
     let inner = chain_of(form, &mut chain)?;
-    let body = simplify(alloc, inner)?;
+    let body = simplify_owned(alloc, inner)?;
     if chain.len() < FEW {
         put_back_few(alloc, chain, body)
     } else {
@@ -209,7 +219,7 @@ fn simplify_chain(alloc: Global, outermost: Quantifier, form: Boxed<Form>) -> Me
 fn simplify_one(alloc: Global, quantifier: Quantifier, form: Boxed<Form>) -> Mem<Boxed<Form>>
     ensures { IfOk result (λ r. r ≡ simple (quantified_of quantifier form)) }
 {
-    let body = simplify(alloc, form)?;
+    let body = simplify_owned(alloc, form)?;
     put_front(alloc, quantifier, body)
 }
 

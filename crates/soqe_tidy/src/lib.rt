@@ -9,4 +9,4 @@ mod free_numbers;
 pub mod laws;
 mod tidying;
 
-pub use tidying::tidy;
+pub use tidying::{tidy, tidy_owned};

@@ -16,6 +16,16 @@ use soqe_term::{Mem, Nums, Renaming, Var, renumber_all_own, renumber_own};
 use sqlite_items::Boxed;
 use std::alloc::Global;
 
+/// What `tidy_owned` makes of the formula, which stays as it is. It copies the formula, each node and term anew, and the copy is used
+/// up: it takes the time, memory and depth of a copy on top of those of `tidy_owned`.
+pub fn tidy(alloc: Global, form: &Form, keep: &Nums) -> Mem<Boxed<Form>>
+    ensures { IfOk result (λ r. r ≡ tidy_form keep.now form.now) }
+{
+    let copy = form.copy(alloc)?;
+    let copy = Boxed::new(alloc, copy)?;
+    tidy_owned(alloc, copy, keep)
+}
+
 /// The formula in which, from the outside in, each binder of a variable has the least number that is neither in `keep` nor that
 /// of another free variable of its body. Binders of predicates stay.
 ///
@@ -23,7 +33,7 @@ use std::alloc::Global;
 /// goes on with the tally of free variables, from which those of the smaller one were taken away; and where a binder's body binds no
 /// variable, the new numbers in it are only listed. The formula is used up: each of its boxes is given back before the one in its
 /// place is taken. It recurses as deep as the formula.
-pub fn tidy(alloc: Global, form: Boxed<Form>, keep: &Nums) -> Mem<Boxed<Form>>
+pub fn tidy_owned(alloc: Global, form: Boxed<Form>, keep: &Nums) -> Mem<Boxed<Form>>
     ensures { IfOk result (λ r. r ≡ tidy_form keep.now form) }
 {
     let mut counts = Recent::new(alloc);

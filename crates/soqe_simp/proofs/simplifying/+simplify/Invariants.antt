@@ -9,8 +9,8 @@ use Rattle.soqe_simp.proofs.Finished.{load}
 use Rattle.soqe_simp.proofs.Knowing.{EachHasPlace}
 use Rattle.soqe_simp.proofs.simplifying.+simplify.Given as goal
 
-abbrev pub decreases-simplify : goal.decreases-simplify
-decreases-simplify l = 8 * weight l.form + 5
+abbrev pub decreases-simplify_owned : goal.decreases-simplify_owned
+decreases-simplify_owned l = 8 * weight l.form + 5
 
 abbrev pub decreases-simplify_node : goal.decreases-simplify_node
 decreases-simplify_node l = 8 * weight l.form + 4
