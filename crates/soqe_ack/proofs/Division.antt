@@ -48,9 +48,9 @@ module _ (s : Bool) (q : Pred) (xs : List Var) where
 
   more : (fs : List Form) (f : Form) (d : Divided) (r : Role) → IsDivided s q xs fs d → IsRole s q xs f r → is_in_way r ≡ false → More fs f d r
   more fs f d (role.Guard parts) k i h = record {
-    conditions = k.conditions ++ parts.condition ∷ [];
+    conditions = k.conditions ++ parts.cond ∷ [];
     conditioned = guard-push k.conditioned i.0 i.1;
-    joined = ap (λ o. Some (with_or o parts.condition)) k.joined ∙ sym (or_onto-push None k.conditions parts.condition);
+    joined = ap (λ o. Some (with_or o parts.cond)) k.joined ∙ sym (or_onto-push None k.conditions parts.cond);
     shared = guards i.0 i.1 nothing;
   }
   more fs f d (role.Lacks g) k i h = record {

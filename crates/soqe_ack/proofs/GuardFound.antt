@@ -16,7 +16,7 @@ use Rattle.soqe_ack.proofs.GuardOf.{Chosen, chosen, both, for_all, one_side, of_
 abbrev as_found : Bool → Chosen → Found
 as_found false o = found.Lacking
 as_found true None = found.NoGuard
-as_found true (Some a) = found.Parts (record { condition = a.0; rest = a.1 })
+as_found true (Some a) = found.Parts (record { cond = a.0; rest = a.1 })
 
 together-is : (f g : Form) (b c : Bool) (o u : Chosen) → together f g (as_found b o) (as_found c u) ≡ as_found (b || c) (both (chosen b f o) (chosen c g u))
 together-is f g false false o u = refl
@@ -49,13 +49,13 @@ unless-is false = refl
 
 module _ (q : Pred) (xs : List Var) where
   literal-is : (b c : Bool) (ts : Terms)
-      → cond c (cond b (found.Parts (record { condition = equations xs ts; rest = True })) found.NoGuard) found.Lacking ≡ as_found c (cond b (Some (equations xs ts, True)) None)
+      → cond c (cond b (found.Parts (record { cond = equations xs ts; rest = True })) found.NoGuard) found.Lacking ≡ as_found c (cond b (Some (equations xs ts, True)) None)
   literal-is b false ts = refl
   literal-is true true ts = refl
   literal-is false true ts = refl
 
   negated-is : (s c : Bool) (ts : Terms)
-      → cond c (cond (not s) (found.Parts (record { condition = equations xs ts; rest = True })) found.NoGuard) found.Lacking ≡ as_found c (cond s None (Some (equations xs ts, True)))
+      → cond c (cond (not s) (found.Parts (record { cond = equations xs ts; rest = True })) found.NoGuard) found.Lacking ≡ as_found c (cond s None (Some (equations xs ts, True)))
   negated-is s false ts = refl
   negated-is true true ts = refl
   negated-is false true ts = refl
@@ -99,7 +99,7 @@ module _ (s : Bool) (q : Pred) (xs : List Var) where
 
   abbrev pub IsFound : Form → Found → Type 0
   IsFound f found.Lacking = has_free q f ≡ false
-  IsFound f (found.Parts a) = (has_free q f ≡ true) × IsGuard s q xs f a.condition a.rest
+  IsFound f (found.Parts a) = (has_free q f ≡ true) × IsGuard s q xs f a.cond a.rest
   IsFound f found.NoGuard = (has_free q f ≡ true) × ((c r : Form) → IsGuard s q xs f c r → ⊥)
 
   none : (a : Form × Form) → None ≡ Some a → ⊥

@@ -18,7 +18,7 @@ use Rattle.soqe_ack.specs.declared.dividing.Divided.{Divided}
 
 -- the conjunct is this to the try
 abbrev pub IsRole : Bool → Pred → List Var → Form → Role → Type 0
-IsRole s q xs f (role.Guard parts) = (has_sign s q f ≡ true) × IsGuard s q xs f parts.condition parts.rest
+IsRole s q xs f (role.Guard parts) = (has_sign s q f ≡ true) × IsGuard s q xs f parts.cond parts.rest
 IsRole s q xs f (role.Lacks g) = (has_free q f ≡ false) × (g ≡ f)
 IsRole s q xs f (role.Waits g) = (has_sign s q f ≡ false) × (g.now ≡ f)
 IsRole s q xs f role.InWay = (has_sign s q f ≡ true) × ((c r : Form) → IsGuard s q xs f c r → ⊥)
@@ -32,7 +32,7 @@ is_in_way role.InWay = true
 
 -- the conditions with that of one more conjunct
 abbrev pub next_condition : Option Form → Role → Option Form
-next_condition c (role.Guard parts) = Some (with_or c parts.condition)
+next_condition c (role.Guard parts) = Some (with_or c parts.cond)
 next_condition c (role.Lacks g) = c
 next_condition c (role.Waits g) = c
 next_condition c role.InWay = c

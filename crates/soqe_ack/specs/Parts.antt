@@ -17,7 +17,7 @@ unless_lacking false = found.Lacking
 
 -- an atom, where one of the predicate has the sign that is looked for or has not
 abbrev pub in_atom : Bool → Pred → List Var → Pred → Terms → Found
-in_atom b q xs p ts = cond (same_pred q p) (cond b (found.Parts (record { condition = equations xs ts; rest = True })) found.NoGuard) found.Lacking
+in_atom b q xs p ts = cond (same_pred q p) (cond b (found.Parts (record { cond = equations xs ts; rest = True })) found.NoGuard) found.Lacking
 
 -- a negation: that of an atom of the predicate is a literal, and one that has the predicate otherwise is no guard
 abbrev pub in_negation : Bool → Pred → List Var → Form → Found
@@ -38,19 +38,19 @@ in_negation s q xs (Ex2' p _ (one f end)) = unless_lacking (cond (hides p.num q)
 -- a conjunction
 abbrev pub together : Form → Form → Found → Found → Found
 together f g found.Lacking found.Lacking = found.Lacking
-together f g found.Lacking (found.Parts b) = found.Parts (record { condition = Or False b.condition; rest = And f b.rest })
+together f g found.Lacking (found.Parts b) = found.Parts (record { cond = Or False b.cond; rest = And f b.rest })
 together f g found.Lacking found.NoGuard = found.NoGuard
-together f g (found.Parts a) found.Lacking = found.Parts (record { condition = Or a.condition False; rest = And a.rest g })
-together f g (found.Parts a) (found.Parts b) = found.Parts (record { condition = Or a.condition b.condition; rest = And a.rest b.rest })
+together f g (found.Parts a) found.Lacking = found.Parts (record { cond = Or a.cond False; rest = And a.rest g })
+together f g (found.Parts a) (found.Parts b) = found.Parts (record { cond = Or a.cond b.cond; rest = And a.rest b.rest })
 together f g (found.Parts a) found.NoGuard = found.NoGuard
 together f g found.NoGuard u = found.NoGuard
 
 -- a disjunction
 abbrev pub alternatives : Form → Form → Found → Found → Found
 alternatives f g found.Lacking found.Lacking = found.Lacking
-alternatives f g found.Lacking (found.Parts b) = found.Parts (record { condition = And (nnf true f) b.condition; rest = Or f b.rest })
+alternatives f g found.Lacking (found.Parts b) = found.Parts (record { cond = And (nnf true f) b.cond; rest = Or f b.rest })
 alternatives f g found.Lacking found.NoGuard = found.NoGuard
-alternatives f g (found.Parts a) found.Lacking = found.Parts (record { condition = And (nnf true g) a.condition; rest = Or a.rest g })
+alternatives f g (found.Parts a) found.Lacking = found.Parts (record { cond = And (nnf true g) a.cond; rest = Or a.rest g })
 alternatives f g (found.Parts a) (found.Parts b) = found.NoGuard
 alternatives f g (found.Parts a) found.NoGuard = found.NoGuard
 alternatives f g found.NoGuard u = found.NoGuard
@@ -58,7 +58,7 @@ alternatives f g found.NoGuard u = found.NoGuard
 -- for all elements
 abbrev pub for_all_elements : Var → Found → Found
 for_all_elements x found.Lacking = found.Lacking
-for_all_elements x (found.Parts a) = found.Parts (record { condition = Ex x a.condition; rest = All x a.rest })
+for_all_elements x (found.Parts a) = found.Parts (record { cond = Ex x a.cond; rest = All x a.rest })
 for_all_elements x found.NoGuard = found.NoGuard
 
 -- what a formula is to the predicate at the sign

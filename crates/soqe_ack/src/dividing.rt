@@ -119,7 +119,7 @@ fn take<'a>(alloc: Global, divided: Divided<'a>, role: Role<'a>) -> Mem<Divided<
     let mut shares = shares;
     match role {
         Role::Guard(parts) => {
-            let made = or_next(alloc, condition, parts.condition)?;
+            let made = or_next(alloc, condition, parts.cond)?;
             shares.push(Share::Ready(parts.rest))?;
             Ok(Divided {
                 condition: Some(made),

@@ -22,7 +22,7 @@ use std::alloc::Global;
 #[derive(Drop)]
 pub enum GuardEnd {
     Guard {
-        condition: Boxed<Form>,
+        cond: Boxed<Form>,
         rest: Boxed<Form>,
     },
     NotGuard,
@@ -34,10 +34,10 @@ impl GuardEnd {
         ensures { IfOk result (λ copy. copy ≡ self.now) }
     {
         match self {
-            GuardEnd::Guard { condition, rest } => {
-                let condition = copy_boxed(alloc, condition)?;
+            GuardEnd::Guard { cond, rest } => {
+                let cond = copy_boxed(alloc, cond)?;
                 let rest = copy_boxed(alloc, rest)?;
-                Ok(GuardEnd::Guard { condition, rest })
+                Ok(GuardEnd::Guard { cond, rest })
             }
             GuardEnd::NotGuard => Ok(GuardEnd::NotGuard),
         }
@@ -47,7 +47,7 @@ impl GuardEnd {
 /// The condition and the rest of a guard.
 #[derive(Drop)]
 pub struct Parts {
-    pub condition: Boxed<Form>,
+    pub cond: Boxed<Form>,
     pub rest: Boxed<Form>,
 }
 
@@ -71,13 +71,10 @@ pub fn guard(alloc: Global, form: &Form, pred: &Pred, sign: Sign, params: &Vars)
             let cond = constant(alloc, false)?;
             let form = form.copy(alloc)?;
             let rest = Boxed::new(alloc, form)?;
-            Ok(GuardEnd::Guard {
-                condition: cond,
-                rest,
-            })
+            Ok(GuardEnd::Guard { cond, rest })
         }
         Found::Parts(parts) => Ok(GuardEnd::Guard {
-            condition: parts.condition,
+            cond: parts.cond,
             rest: parts.rest,
         }),
         Found::NoGuard => Ok(GuardEnd::NotGuard),
@@ -154,9 +151,9 @@ fn find_atom(
     if !is_literal {
         return Ok(Found::NoGuard);
     }
-    let condition = equations(alloc, params.as_slice(), terms)?;
+    let cond = equations(alloc, params.as_slice(), terms)?;
     let rest = constant(alloc, true)?;
-    Ok(Found::Parts(Parts { condition, rest }))
+    Ok(Found::Parts(Parts { cond, rest }))
 }
 
 /// The negation of the formula.
@@ -190,9 +187,9 @@ fn conjoin(alloc: Global, f: &Boxed<Form>, left: Found, g: &Boxed<Form>, right: 
             Found::Parts(b) => {
                 let none = constant(alloc, false)?;
                 let f = copy_boxed(alloc, f)?;
-                let condition = disjunction(alloc, none, b.condition)?;
+                let cond = disjunction(alloc, none, b.cond)?;
                 let rest = conjunction(alloc, f, b.rest)?;
-                Ok(Found::Parts(Parts { condition, rest }))
+                Ok(Found::Parts(Parts { cond, rest }))
             }
             Found::NoGuard => Ok(Found::NoGuard),
         },
@@ -200,14 +197,14 @@ fn conjoin(alloc: Global, f: &Boxed<Form>, left: Found, g: &Boxed<Form>, right: 
             Found::Lacking => {
                 let none = constant(alloc, false)?;
                 let g = copy_boxed(alloc, g)?;
-                let condition = disjunction(alloc, a.condition, none)?;
+                let cond = disjunction(alloc, a.cond, none)?;
                 let rest = conjunction(alloc, a.rest, g)?;
-                Ok(Found::Parts(Parts { condition, rest }))
+                Ok(Found::Parts(Parts { cond, rest }))
             }
             Found::Parts(b) => {
-                let condition = disjunction(alloc, a.condition, b.condition)?;
+                let cond = disjunction(alloc, a.cond, b.cond)?;
                 let rest = conjunction(alloc, a.rest, b.rest)?;
-                Ok(Found::Parts(Parts { condition, rest }))
+                Ok(Found::Parts(Parts { cond, rest }))
             }
             Found::NoGuard => Ok(Found::NoGuard),
         },
@@ -223,19 +220,19 @@ fn disjoin(alloc: Global, f: &Boxed<Form>, left: Found, g: &Boxed<Form>, right: 
         Found::Lacking => match right {
             Found::Lacking => Ok(Found::Lacking),
             Found::Parts(b) => {
-                let condition = unless(alloc, f, b.condition)?;
+                let cond = unless(alloc, f, b.cond)?;
                 let f = copy_boxed(alloc, f)?;
                 let rest = disjunction(alloc, f, b.rest)?;
-                Ok(Found::Parts(Parts { condition, rest }))
+                Ok(Found::Parts(Parts { cond, rest }))
             }
             Found::NoGuard => Ok(Found::NoGuard),
         },
         Found::Parts(a) => match right {
             Found::Lacking => {
-                let condition = unless(alloc, g, a.condition)?;
+                let cond = unless(alloc, g, a.cond)?;
                 let g = copy_boxed(alloc, g)?;
                 let rest = disjunction(alloc, a.rest, g)?;
-                Ok(Found::Parts(Parts { condition, rest }))
+                Ok(Found::Parts(Parts { cond, rest }))
             }
             Found::Parts(_) => Ok(Found::NoGuard),
             Found::NoGuard => Ok(Found::NoGuard),
@@ -259,9 +256,9 @@ fn quantify(alloc: Global, x: Var, below: Found) -> Mem<Found>
     match below {
         Found::Lacking => Ok(Found::Lacking),
         Found::Parts(a) => {
-            let condition = exists(alloc, x, a.condition)?;
+            let cond = exists(alloc, x, a.cond)?;
             let rest = for_all(alloc, x, a.rest)?;
-            Ok(Found::Parts(Parts { condition, rest }))
+            Ok(Found::Parts(Parts { cond, rest }))
         }
         Found::NoGuard => Ok(Found::NoGuard),
     }

@@ -162,8 +162,8 @@ fn a_guard_for_all_elements(rt: HostRuntime) -> Result<(), Fail> {
     let params = vars(alloc, &[2])?;
     let end = guard(alloc, form.get(), &P, Sign::Pos, &params)?;
     match end.copy(alloc)? {
-        GuardEnd::Guard { condition, rest } => {
-            assert!(rt; is_written(alloc, condition.get(), b"E1|f&d21=21")?);
+        GuardEnd::Guard { cond, rest } => {
+            assert!(rt; is_written(alloc, cond.get(), b"E1|f&d21=21")?);
             assert!(rt; is_written(alloc, rest.get(), b"A1&d11|~d21t")?);
         }
         GuardEnd::NotGuard => assert!(rt; false),
@@ -178,7 +178,7 @@ fn a_disjunction_of_two_literals_is_no_guard(rt: HostRuntime) -> Result<(), Fail
     let params = vars(alloc, &[2])?;
     match guard(alloc, form.get(), &P, Sign::Pos, &params)? {
         GuardEnd::Guard {
-            condition: _,
+            cond: _,
             rest: _,
         } => assert!(rt; false),
         GuardEnd::NotGuard => assert!(rt; true),

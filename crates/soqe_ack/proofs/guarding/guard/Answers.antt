@@ -19,7 +19,7 @@ returns-in-Parts-clause-exact c =
 pub returns-in-Parts-clause-says : goal.returns-in-Parts-clause-says
 returns-in-Parts-clause-says c =
     let k = found-at (is_pos c.args.sign) c.args.pred.now c.args.params.now c.args.form.now c.args.form.now c.in_ok-find.field-0 (found.Parts c.in-Parts.parts) refl c.in_ok-find.ensures c.in-Parts.is in
-    says-parts (is_pos c.args.sign) c.args.pred.now c.args.params.now c.args.form.now c.in-Parts.parts.condition c.in-Parts.parts.rest k.1
+    says-parts (is_pos c.args.sign) c.args.pred.now c.args.params.now c.args.form.now c.in-Parts.parts.cond c.in-Parts.parts.rest k.1
 
 pub returns-in-NoGuard-clause-exact : goal.returns-in-NoGuard-clause-exact
 returns-in-NoGuard-clause-exact c =
