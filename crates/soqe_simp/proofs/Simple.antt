@@ -9,7 +9,7 @@ use Rattle.soqe_simp.specs.Weight.{weight}
 use Rattle.soqe_simp.specs.Normal.{is_settled, is_simple}
 use Rattle.soqe_simp.specs.Step.{step}
 use Rattle.soqe_simp.specs.Simplified.{on_children, then_on, root_simplified, simplified, simplify}
-use Rattle.soqe_simp.specs.Simplifies.{Simplifies, SimplifyIsSimple, SimpleStays}
+use Rattle.soqe_simp.specs.Simplifies.{Simplifies, SimplifyIsSimple, SimpleStays, BoundDoesNotMatter}
 use Rattle.soqe_simp.proofs.Kept.{weight-positive}
 use Rattle.soqe_simp.specs.Ready.{Children}
 use Rattle.soqe_simp.proofs.Children.{children-lighter, children-map, children-equal, children-stay, children-changed, children-simple, root-settled, simple-from}
@@ -74,3 +74,6 @@ simplify-simple f = simplified-simple (weight f) f (omega (arith))
 
 pub simple-stays : SimpleStays
 simple-stays f h = simplified-stays (weight f) f h
+
+pub any-bound : BoundDoesNotMatter
+any-bound k f h = simplified-enough k (weight f) f h (omega (arith))

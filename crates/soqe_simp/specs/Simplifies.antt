@@ -8,7 +8,7 @@ use Rattle.soqe_form.specs.Sorted.{sorted}
 use Rattle.soqe_form.specs.Places.{count_blocks}
 use Rattle.soqe_simp.specs.Weight.{weight as weight_of}
 use Rattle.soqe_simp.specs.Normal.{is_simple}
-use Rattle.soqe_simp.specs.Simplified.{simplify}
+use Rattle.soqe_simp.specs.Simplified.{simplified, simplify}
 
 -- Where f is well sorted, g is, and has its truth in every world that fits. g has no free name that f lacks,
 -- no more quantifiers of predicates, and weighs no more.
@@ -31,3 +31,7 @@ SimplifyIsSimple = (f : Form) → is_simple (simplify f) ≡ true
 -- a simple formula stays as it is
 abbrev pub SimpleStays : Type 0
 SimpleStays = (f : Form) → is_simple f ≡ true → simplify f ≡ f
+
+-- the bound in the definition does not matter: each one that is at least the formula's weight gives the same
+abbrev pub BoundDoesNotMatter : Type 0
+BoundDoesNotMatter = (k : ℕ) (f : Form) → weight_of f ≤ k → simplified k f ≡ simplify f

@@ -2,7 +2,7 @@
 
 ghost use Rattle.soqe_simp.specs.Rows.{not_true, not_false, not_not, equal_itself, true_and, and_true, false_and, and_false, and_same, and_opposite, opposite_and, true_or, or_true, false_or, or_false, or_same, or_opposite, opposite_or, not_or, or_not, true_implies, false_implies, implies_true, implies_false, implies_itself, implies_implication, implies_negation, true_iff, iff_true, false_iff, iff_false, iff_itself, unused_variable, unused_predicate, solved_some, solved_negation, solved_condition};
 ghost use Rattle.soqe_simp.specs.Keeps.{RowKeeps, RowKeepsIn, StepKeeps};
-ghost use Rattle.soqe_simp.specs.Simplifies.{SimplifyKeeps, SimplifyIsSimple, SimpleStays};
+ghost use Rattle.soqe_simp.specs.Simplifies.{SimplifyKeeps, SimplifyIsSimple, SimpleStays, BoundDoesNotMatter};
 ghost use Rattle.soqe_simp.specs.RowTables.{CodesLeadBack, NamesLeadBack};
 
 /// What each row for ~A and t = u keeps.
@@ -71,11 +71,13 @@ pub fn steps()
     ensures kept { StepKeeps }
 {}
 
-/// What a formula keeps that is made simple; it is simple then, and a simple one stays as it is.
+/// What a formula keeps that is made simple; it is simple then, and a simple one stays as it is. The bound in the definition does
+/// not matter.
 pub fn simple_formulas()
     ensures kept { SimplifyKeeps }
     ensures simple { SimplifyIsSimple }
     ensures stays { SimpleStays }
+    ensures bound { BoundDoesNotMatter }
 {}
 
 /// The two calls on a table of names undo each other.
