@@ -4,16 +4,16 @@
 //! and `e`, `x`, `y` and `z` are `ex`; `A` and `E` bind the predicate 0, `B` binds the predicate 1.
 mod cases;
 
-use soqe_norm::apart::apart;
-use soqe_norm::nnf::nnf;
-use soqe_norm::prenex::prenex;
-use soqe_norm::signs::{first_signs, signs};
-use soqe_norm::valued::{value_for, valued};
 use soqe_form::make::{
     conjunction, disjunction, equivalence, exists, exists_table, for_all, for_all_tables,
     implication, negation,
 };
 use soqe_form::{BlockRef, Form, PVar, Pred};
+use soqe_norm::apart::apart;
+use soqe_norm::nnf::nnf;
+use soqe_norm::prenex::prenex;
+use soqe_norm::signs::{first_signs, signs};
+use soqe_norm::valued::{value_for, valued};
 use soqe_term::{Mem, Nums, Sorts, Term, Terms, Var};
 use sqlite_items::Boxed;
 use std::alloc::Global;

@@ -1,6 +1,6 @@
 //! Predicates replaced in formulas written by hand.
-use soqe_psub::pred_subst;
 use soqe_form::{Form, PVar, Pred, make};
+use soqe_psub::pred_subst;
 use soqe_term::{Mem, Sorts, Term, Terms, Var, Vars};
 use sqlite_items::Boxed;
 use std::alloc::Global;

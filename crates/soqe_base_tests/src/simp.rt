@@ -3,12 +3,12 @@
 //! `x0 = x0`, `x`, `y` and `z` are `x1 = x2`, `x2 = x3` and `x0 = f(x1)`; `t` and `f` are true and false; `~`, `&`, `|`, `>`
 //! and `=` join what stands before them; `a` and `b` are `all` with the variables 0 and 1, `e` and `g` are `ex` with them; `A`
 //! and `E` bind the predicate 0.
-use soqe_simp::{RowTable, row_names, simplify, simplify_owned, step};
 use soqe_form::make::{
     conjunction, disjunction, equation, equivalence, exists, exists_table, for_all, for_all_tables,
     implication, negation,
 };
 use soqe_form::{Form, PVar, Pred, same};
+use soqe_simp::{RowTable, row_names, simplify, simplify_owned, step};
 use soqe_term::{Mem, Sorts, Sym, Term, Terms, Var};
 use sqlite_items::Boxed;
 use std::alloc::Global;

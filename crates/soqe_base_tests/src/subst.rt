@@ -1,8 +1,8 @@
 //! Substitution and renaming in formulas written by hand.
 ghost use Rattle.std.specs.Prelude.{◌≡◌};
 
-use soqe_subst::{rename, rename_pred, subst};
 use soqe_form::{Form, PVar, Pred, make};
+use soqe_subst::{rename, rename_pred, subst};
 use soqe_term::{Mem, Sorts, Term, Terms, Var};
 use sqlite_items::Boxed;
 use std::alloc::Global;

@@ -1,6 +1,6 @@
 //! Counts, tallies, numbers to keep out and uses of binders, by tables of cases.
-use soqe_tally::{Recent, Tally, Unkept, Uses, gather, least_beside};
 use soqe_form::{Form, make};
+use soqe_tally::{Recent, Tally, Unkept, Uses, gather, least_beside};
 use soqe_term::{Mem, Nums, Term, Var};
 use sqlite_items::Boxed;
 use std::alloc::Global;

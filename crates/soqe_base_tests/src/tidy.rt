@@ -1,7 +1,7 @@
 //! Tidy forms of formulas written by hand.
-use soqe_tidy::{tidy, tidy_owned};
 use soqe_form::{Form, PVar, Pred, make};
 use soqe_term::{Mem, Nums, Sorts, Term, Terms, Var};
+use soqe_tidy::{tidy, tidy_owned};
 use sqlite_items::Boxed;
 use std::alloc::Global;
 use std::test::Fail;

@@ -177,10 +177,7 @@ fn a_disjunction_of_two_literals_is_no_guard(rt: HostRuntime) -> Result<(), Fail
     let form = either(alloc, atom(alloc, P, 1)?, atom(alloc, P, 0)?)?;
     let params = vars(alloc, &[2])?;
     match guard(alloc, form.get(), &P, Sign::Pos, &params)? {
-        GuardEnd::Guard {
-            cond: _,
-            rest: _,
-        } => assert!(rt; false),
+        GuardEnd::Guard { cond: _, rest: _ } => assert!(rt; false),
         GuardEnd::NotGuard => assert!(rt; true),
     }
     Ok(())

@@ -1,6 +1,6 @@
 //! Documents with a line of each kind, and their texts by hand.
-use soqe_deriv::{Document, Line, Lines, Method, Stop, write_document};
 use soqe_ack::{DlsStep, Sign};
+use soqe_deriv::{Document, Line, Lines, Method, Stop, write_document};
 use soqe_form::{Form, PVar, Pred};
 use soqe_term::{Kind, Mem, Signature, Sorts, Terms, Var, Vars};
 use soqe_text::Problem;

@@ -1,6 +1,6 @@
 //! Small blocks. A formula is read backwards, as `made` says, and its answer is shown in Polish notation, as `show` says.
-use soqe_dls::{DlsEnd, dls};
 use soqe_ack::{DlsStep, Sign};
+use soqe_dls::{DlsEnd, dls};
 use soqe_form::make::{conjunction, disjunction, exists, for_all, negation};
 use soqe_form::{Form, PVar, Pred};
 use soqe_term::{Mem, Nums, Sorts, Term, Terms, Var, Vars};

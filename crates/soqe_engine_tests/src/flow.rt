@@ -7,9 +7,9 @@ ghost use Rattle.soqe_form.specs.declared.form.Pred.TheVariants.{Bound};
 ghost use Rattle.soqe_form.specs.Sorted.{sorted};
 ghost use Rattle.soqe_text.specs.declared.problem.Problem.TheVariants.{Elim};
 
-use soqe_flow::{FlowEnd, Wanted, elim};
 use soqe_ack::DlsStep;
 use soqe_deriv::{Line, Stop};
+use soqe_flow::{FlowEnd, Wanted, elim};
 use soqe_form::make::{
     conjunction, constant, disjunction, equivalence, exists_table, for_all_tables, negation,
 };
