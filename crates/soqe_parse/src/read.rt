@@ -1,5 +1,5 @@
 //! Reading the shape of a text.
-ghost use Rattle.std.specs.Prelude.{◌≡◌, [], ◌<◌, ◌^◌, length, IfOk};
+ghost use Rattle.std.specs.Prelude.{◌≡◌, [], IfOk};
 ghost use Rattle.std.specs.List.{All};
 ghost use Rattle.soqe_lex.specs.Spans.{IsWithin};
 ghost use Rattle.soqe_syntax.specs.Pieces.{HasProblem};
@@ -28,7 +28,6 @@ pub enum ShapeError {
 /// The shape of a problem's text. The errors are the want of memory, and the text's syntax fault with its offset.
 #[tactic(auto, using(crate::proofs::Found::is_found, crate::proofs::Found::is_place))]
 pub fn read_problem_shape(alloc: Global, bytes: &[u8]) -> Result<ProblemShape, ShapeError>
-    requires { length bytes.now < 2 ^ 32 }
     // The text has the shape that is read.
     ensures found { IfOk result (λ s. HasProblem bytes.now (problem_view s)) }
     // The fault is at the first place where the text stops being the beginning of a problem.

@@ -1,5 +1,5 @@
 //! Reading the shape of a formula that stands by itself: the machine of goals, begun where a formula is due.
-ghost use Rattle.std.specs.Prelude.{◌≡◌, [], ◌<◌, ◌^◌, length, IfOk};
+ghost use Rattle.std.specs.Prelude.{◌≡◌, [], IfOk};
 ghost use Rattle.std.specs.List.{All};
 ghost use Rattle.soqe_lex.specs.Spans.{IsWithin};
 ghost use Rattle.soqe_syntax.specs.Shapes.{view};
@@ -19,7 +19,6 @@ use std::alloc::Global;
 /// of the text's end; `Memory` where memory runs out. No nesting of the text is paid with the call stack.
 #[tactic(auto, using(crate::proofs::FormFound::is_form, crate::proofs::FormFound::is_form_place))]
 pub fn read_form_shape(alloc: Global, bytes: &[u8]) -> Result<Shape, ShapeError>
-    requires { length bytes.now < 2 ^ 32 }
     // The text has the shape that is read.
     ensures found { IfOk result (λ s. HasForm bytes.now (view s)) }
     // The fault is at the first place where the text stops being the beginning of a formula.
