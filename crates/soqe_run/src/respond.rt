@@ -1,5 +1,5 @@
 //! From the bytes of a problem text to a reply.
-ghost use Rattle.std.specs.Prelude.{◌≡◌, ◌<◌, ◌^◌, ◌++◌, ℕ, List, length, IfOk, IsTrue};
+ghost use Rattle.std.specs.Prelude.{◌≡◌, ◌++◌, ℕ, List, IfOk, IsTrue};
 ghost use Rattle.std.specs.Fmt.{decimal};
 ghost use Rattle.soqe_text.specs.Spelled.{Spells};
 ghost use Rattle.soqe_text.specs.Sorted.{IsSorted};
@@ -16,7 +16,6 @@ use std::alloc::{AllocError, Global};
 
 /// The engine: the reply to a text that isn't over its limit. The one error is want of memory.
 pub(crate) fn respond(alloc: Global, wanted: Wanted, bytes: &[u8]) -> Mem<Reply>
-    requires { length bytes.now < 2 ^ 32 }
     ensures responds { IfOk result (λ reply. Responds wanted bytes.now reply.status reply.text.items) }
     ensures status { IfOk result (λ reply. IsTrue (is_reply reply.status)) }
 {

@@ -23,7 +23,7 @@ pub(crate) fn declare(sig: &mut Signature, name: &[u8], kind: Kind) -> Result<u6
     ensures ok { IfOk result (λ num. IsDeclared sig.old name.now kind num sig.new) }
     ensures refused { OnRefusedName result (is_new sig.old name.now ≡ false) }
 {
-    // No memory holds more names.
+    // A signature has no room for more names: that is told as want of memory.
     if sig.len() >= 0xffff_ffff {
         return Err(NameFault::Memory);
     }

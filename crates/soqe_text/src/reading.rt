@@ -1,5 +1,5 @@
 //! All problems: from the bytes of a text to a problem with numbers, or to the place where the text is refused.
-ghost use Rattle.std.specs.Prelude.{◌≡◌, ◌<◌, ◌^◌, [], length, Ok, Err, None, Some, IfOk, OnOk};
+ghost use Rattle.std.specs.Prelude.{◌≡◌, [], Ok, Err, None, Some, IfOk, OnOk};
 ghost use Rattle.soqe_parse.specs.Faults.{IsFaultAt};
 ghost use Rattle.soqe_parse.specs.ProblemShapes.{problem_view};
 ghost use Rattle.soqe_syntax.specs.Shapes.{declared_view, view};
@@ -169,10 +169,9 @@ fn problem_of(alloc: Global, bytes: &[u8], shape: &ProblemShape) -> Result<Probl
 
 /// The problem that a text spells. `Syntax` comes where the text has no shape; `Names` where it has one and a name is
 /// refused, with the first such place; `Sorts` where no name is refused and one is used wrongly or an equation is between
-/// two sorts, with the first such place; `Memory` where memory runs out. It allocates the tree, the names, the formula and lists
-/// with a place for each number; the recursion is as deep as the formula.
+/// two sorts, with the first such place; `Memory` where memory runs out, or a signature has no room for all the names. It
+/// allocates the tree, the names, the formula and lists with a place for each number; the recursion is as deep as the formula.
 pub fn read_problem(alloc: Global, command: Command, bytes: &[u8]) -> Result<Problem, TextFault>
-    requires { length bytes.now < 2 ^ 32 }
     ensures found { IfOk result (λ problem. Spells bytes.now problem) }
     ensures sorted { IfOk result (λ problem. IsSorted problem) }
     ensures syntax { OnTextSyntax result (λ at. IsFaultAt bytes.now at) }

@@ -1,5 +1,5 @@
 //! Formulas by themselves: from the bytes of a text to a formula with numbers, or to the place where the text is refused.
-ghost use Rattle.std.specs.Prelude.{◌≡◌, ◌<◌, ◌^◌, length, None, Some, true, IfOk, OnOk};
+ghost use Rattle.std.specs.Prelude.{◌≡◌, None, Some, true, IfOk, OnOk};
 ghost use Rattle.soqe_form.specs.Scope.{sorting_for};
 ghost use Rattle.soqe_form.specs.Sorted.{sorted};
 ghost use Rattle.soqe_parse.specs.Formulas.{HasForm, IsFormFaultAt};
@@ -97,7 +97,6 @@ pub fn read_form(
     preds: &PVars,
     bytes: &[u8],
 ) -> Result<Boxed<Form>, TextFault>
-    requires { length bytes.now < 2 ^ 32 }
     ensures found { IfOk result (λ f. SpellsForm sig.now skolems.now free.now preds.now bytes.now f) }
     ensures sorted { IfOk result (λ f. sorted (sorting_for sig.now skolems.now free.now preds.now) f ≡ true) }
     ensures syntax { OnTextSyntax result (λ at. IsFormFaultAt bytes.now at) }
