@@ -1,5 +1,5 @@
 -- When a line of a block by cases is valid, and what the cases have come to then.
-use Rattle.std.specs.Prelude.{◌≡◌, ℕ, suc, Bool, true, not, cond, List, [], ◌∷◌, ◌++◌, length, Option, Some, None}
+use Rattle.std.specs.Prelude.{◌≡◌, ℕ, suc, Bool, true, not, cond, List, [], ◌∷◌, ◌++◌, length, map, Option, Some, None}
 use Rattle.soqe_term.specs.declared.term.Var.{Var}
 use Rattle.soqe_form.specs.declared.form.Form.{Form}
 use Rattle.soqe_form.specs.declared.form.Pred.TheVariants.{Bound}
@@ -47,8 +47,9 @@ abbrev pub cases_come_to : Bool → Option Form → List Case → Option Present
 cases_come_to exists (Some f) [] None given = Some (any_for exists given)
 cases_come_to exists _ _ _ given = None
 
--- the value is the other one, up to the numbers of the parameters, which are distinct
-pub record IsValueOf (params : List Var) (value : Form) (shown_params : List Var) (shown : Form) : Type 0 where
+-- the value is the other one, up to the numbers of the parameters, which are distinct and bear the sorts of the predicate's arguments
+pub record IsValueOf (args : List ℕ) (params : List Var) (value : Form) (shown_params : List Var) (shown : Form) : Type 0 where
+  pub arguments : map (λ x. x.sort) shown_params ≡ args
   pub distinct : AreDistinct shown_params
   pub same_value : same (for_all shown_params shown) (for_all params value) ≡ true
 
@@ -61,7 +62,7 @@ pub data CaseStep (keep : List ℕ) (b : Block) (w : Cases) : Line → Cases →
       → f ≡ case_form vars fs → length vars ≡ length c.vars → length fs ≡ length c.conj
       → CaseStep keep b w (line.Dls (step.Case n f)) (record w { due = cs; number = n; present = Some (record { vars = vars; conj = fs; sign = None }) })
   ack : {c : Present} {s : Sign} {params shown_params : List Var} {value shown form : Form} → w.present ≡ Some c → c.sign ≡ None
-      → IsAcked (is_pos s) b.pred keep c.vars c.conj params value form → IsValueOf params value shown_params shown
+      → IsAcked (is_pos s) b.pred keep c.vars c.conj params value form → IsValueOf b.pred.args params value shown_params shown
       → CaseStep keep b w (line.Dls (step.Ack s (Bound b.pred.num) shown_params shown)) (record w { present = Some (record c { sign = Some (is_pos s) }) })
   gives : {c : Present} {s : Bool} {params : List Var} {value form f : Form} → w.present ≡ Some c → c.sign ≡ Some s
       → IsAcked s b.pred keep c.vars c.conj params value form → same f form ≡ true
