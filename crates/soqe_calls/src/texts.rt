@@ -46,16 +46,12 @@ fn printed(alloc: Global, shape: Shape, size: u32) -> Mem<String>
     Ok(text)
 }
 
-/// How many nodes the goal has that the text spells, and 0 where it is refused. Want of memory stands for a text of 2^32
-/// bytes and more.
+/// How many nodes the goal has that the text spells, and 0 where it is refused.
 fn read(alloc: Global, text: &str) -> Mem<u64>
     ensures { IfOk result (λ n. IsGoalSize text.now n) }
 {
     one_spelled();
     let bytes = text.as_bytes();
-    if bytes.len() > 0xffff_ffff {
-        return Err(AllocError);
-    }
     match read_problem(alloc, Command::Elim, bytes) {
         Ok(problem) => goal_nodes(problem),
         Err(TextFault::Memory) => Err(AllocError),
