@@ -1,5 +1,8 @@
 pub mod Faults
 pub mod MemSource
 pub mod MemSink
+pub mod Pieces
+pub mod Read
 pub mod Repeat
 pub mod Standard
+pub mod Write

@@ -5,7 +5,7 @@ use Rattle.std.proofs.lemmas.List.{take-take}
 use Rattle.std.proofs.Math.Seq.{take-add}
 use Rattle.std.specs.Prelude.{Option}
 use Rattle.std.specs.Io.KnownBytes.{Appends, Consumes}
-use Rattle.soqe_stream.specs.Read.{HasRead}
+use Rattle.soqe_io.specs.Read.{HasRead}
 
 -- the bytes that a sink took of a piece go on where the earlier pieces stopped
 pub appends_piece : (a b c : Option (List ℕ)) (text : List ℕ) (done end n : ℕ) → Appends a b (take done text)

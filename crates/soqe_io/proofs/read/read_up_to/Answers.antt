@@ -1,5 +1,5 @@
 use Rattle.std.proofs.Common.{[]}
-use Rattle.soqe_stream.proofs.read.read_up_to.Goals as goal
+use Rattle.soqe_io.proofs.read.read_up_to.Goals as goal
 
 pub returns-in-Ok-clause-bytes : goal.returns-in-Ok-clause-bytes
 returns-in-Ok-clause-bytes g c = let t = c.in-Ok.ensures.taken in rw (t.taken [] c.new-bytes.ensures.items) t.lost

@@ -1,8 +1,8 @@
-use Rattle.std.proofs.Common.{◌≤◌, length, arith, length-take, length-append}
+use Rattle.std.proofs.Common.{◌∙◌, ◌≤◌, length, arith, length-take, length-append}
 use Rattle.std.proofs.KnownBytes.{Consumes-trans}
 use Rattle.std.proofs.lemmas.List.{take-append-le}
-use Rattle.soqe_stream.proofs.Known.{has_read_more}
-use Rattle.soqe_stream.proofs.read.read_into.Goals as goal
+use Rattle.soqe_io.proofs.Known.{has_read_more}
+use Rattle.soqe_io.proofs.read.read_into.Goals as goal
 
 pub loop-done-preserved : goal.loop-done-preserved
 loop-done-preserved g c =
@@ -10,7 +10,8 @@ loop-done-preserved g c =
       grind (arith, length-take),
       has_read_more _ _ _ _ _ _ _ _ _ _ (grind (arith, length-take)) c.loop-done.invariant.1 c.in-Ok.ensures.bytes.0
           (λ bytes h. rw take-append-le at (c.in-Ok-feed.ensures bytes h)),
-      omega arith,
+      c.in-Ok.ensures.cause.quiet ∙ c.loop-done.invariant.2,
+      c.in-Ok.ensures.goes_on (omega arith),
     )
 
 pub returns-in-Err-feed-clause-within : goal.returns-in-Err-feed-clause-within

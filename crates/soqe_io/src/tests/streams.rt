@@ -1,5 +1,4 @@
-use super::*;
-use soqe_io::{Failed, MemSink, MemSource, NullSink, RepeatSource, Source, SureSource};
+use crate::*;
 use std::test::Fail;
 
 const TEXT: &[u8] = b"abcdefg";

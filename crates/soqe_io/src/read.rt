@@ -1,10 +1,9 @@
 ghost use Rattle.std.specs.Prelude.{◌≡◌, ◌<◌, ◌≤◌, ◌++◌, List, ℕ, length, IfOk, OnOk};
 ghost use Rattle.std.specs.Io.KnownBytes.{Consumes, IsAtEnd};
 ghost use Rattle.soqe_io.specs.Faults.{Rose};
-ghost use Rattle.soqe_stream.specs.Read.{HasRead, IsReadWithin};
+ghost use Rattle.soqe_io.specs.Read.{HasRead, IsReadWithin};
 
-use crate::PIECE;
-use soqe_io::{Failed, Mem, Source};
+use crate::{Failed, Mem, PIECE, Source};
 use std::alloc::Global;
 
 /// Why reading stopped short.
@@ -36,21 +35,25 @@ impl Intake for Vec<u8> {
 }
 
 /// Hands on what the source gives, to its end or to so many bytes, and answers the number of bytes. It reads in pieces
-/// of at most 4,096 bytes, and no more after a call that gave nothing or failed. It takes no memory itself.
+/// of at most 4,096 bytes, and no more after a call that gave nothing or failed: both are what the source asks of its
+/// caller. It takes no memory itself.
 ///
-/// `Fault` comes only where the source's count of faults rose, `Memory` only from the intake. After an error the
-/// intake has taken in some of the bytes that the source lost.
+/// `Fault` comes only where the source's count of faults rose, and every other answer only where it is as before.
+/// `Memory` comes only from the intake. After an error the intake has taken in some of the bytes that the source lost.
 pub fn read_into<S: Source, T: Intake>(
     source: &mut S,
     into: &mut T,
     limit: u64,
 ) -> Result<u64, ReadError>
+    requires { S.IsOpen source.old }
     ensures taken { IfOk result (HasRead T.HasTaken (S.left source.old) (S.left source.new) into.old into.new) }
     ensures most { IfOk result (λ count. count ≤ limit) }
     ensures end { IfOk result (λ count. count < limit → IsAtEnd (S.left source.new)) }
     ensures within { IsReadWithin limit (S.left source.old) (S.left source.new) }
     ensures later { S.faults source.old ≤ S.faults source.new }
     ensures fault { result ≡ Err ReadError.Fault → Rose (S.faults source.old) (S.faults source.new) }
+    ensures quiet { OnOk result (S.faults source.new ≡ S.faults source.old) }
+    ensures wanting { result ≡ Err ReadError.Memory → S.faults source.new ≡ S.faults source.old }
 {
     let mut piece = [0; PIECE];
     let mut done = 0;
@@ -73,18 +76,21 @@ pub fn read_into<S: Source, T: Intake>(
 /// Reads to the end of the source, or to so many bytes, and gives all that it read. As `read_into`, it reads no more
 /// after a call that gave nothing or failed.
 ///
-/// `Fault` comes only where the source's count of faults rose.
+/// `Fault` comes only where the source's count of faults rose, and every other answer only where it is as before.
 pub fn read_up_to<S: Source>(
     alloc: Global,
     source: &mut S,
     limit: u64,
 ) -> Result<Vec<u8>, ReadError>
+    requires { S.IsOpen source.old }
     ensures bytes { IfOk result (λ bytes. Consumes (S.left source.old) (S.left source.new) bytes.items) }
     ensures most { IfOk result (λ bytes. length bytes.items ≤ limit) }
     ensures end { IfOk result (λ bytes. length bytes.items < limit → IsAtEnd (S.left source.new)) }
     ensures within { IsReadWithin limit (S.left source.old) (S.left source.new) }
     ensures later { S.faults source.old ≤ S.faults source.new }
     ensures fault { result ≡ Err ReadError.Fault → Rose (S.faults source.old) (S.faults source.new) }
+    ensures quiet { OnOk result (S.faults source.new ≡ S.faults source.old) }
+    ensures wanting { result ≡ Err ReadError.Memory → S.faults source.new ≡ S.faults source.old }
 {
     let mut bytes = Vec::new(alloc);
     match read_into(source, &mut bytes, limit) {
