@@ -22,23 +22,25 @@ read_enough plan status text bytes after end (too_long long is) = rw is.status_i
 read_enough plan status text bytes after end (by_method wanted is short reply h) = read_to_end plan status bytes after reply (end (omega arith))
 
 -- the reply to bytes that were read up to one byte past the limit is due
-pub due_read : (plan : Plan) (before after : Option (List ℕ)) (rose : Type 0) (status : Status) (text bytes : List ℕ)
-    → Consumes before after bytes → (length bytes < limit_of plan + 1 → IsAtEnd after)
-    → Replies plan bytes status text → IsDueFor plan before after rose status text
-due_read plan before after rose status text bytes lost end replies = inl record {
+pub due_read : (plan : Plan) (before after : Option (List ℕ)) (old_count new_count : ℕ) (status : Status) (text bytes : List ℕ)
+    → Consumes before after bytes → (length bytes < limit_of plan + 1 → IsAtEnd after) → new_count ≡ old_count
+    → Replies plan bytes status text → IsDueFor plan before after old_count new_count status text
+due_read plan before after old_count new_count status text bytes lost end quiet replies = inl record {
   read = bytes;
   lost = lost;
   replies = replies;
   enough = read_enough plan status text bytes after end replies;
+  quiet = quiet;
 }
 
 -- what is due for the plan of the words is due for the words
-pub due_planned : (words : List (List ℕ)) (before after : Option (List ℕ)) (rose : Type 0) (status : Status) (text : List ℕ) (plan : Plan)
-    → the_plan words ≡ Some plan → IsDueFor plan before after rose status text → IsDue words before after rose status text
-due_planned words before after rose status text plan is (inl reply) = inl record {
+pub due_planned : (words : List (List ℕ)) (before after : Option (List ℕ)) (old_count new_count : ℕ) (status : Status) (text : List ℕ) (plan : Plan)
+    → the_plan words ≡ Some plan → IsDueFor plan before after old_count new_count status text → IsDue words before after old_count new_count status text
+due_planned words before after old_count new_count status text plan is (inl reply) = inl record {
   read = reply.read;
   lost = reply.lost;
   answer = planned plan is reply.replies;
   enough = rw is reply.enough;
+  quiet = reply.quiet;
 }
-due_planned words before after rose status text plan is (inr fault) = inr fault
+due_planned words before after old_count new_count status text plan is (inr fault) = inr fault

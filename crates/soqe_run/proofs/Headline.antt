@@ -62,17 +62,17 @@ solved_answer words lb la tb ta read text status is told enough wrote (planned p
     solved_reply lb la tb ta plan read text status is told (read_whole words plan status read la is plan_is enough) wrote replies
 
 -- what is due with `Done`, and was written, solves the problem
-solved_due : (words : List (List ℕ)) (left_before left_after taken_before taken_after : Option (List ℕ)) (rose : Type 0) (text : List ℕ) (status : Status)
-    → status ≡ Done → Appends taken_before taken_after text → IsDue words left_before left_after rose status text
+solved_due : (words : List (List ℕ)) (left_before left_after taken_before taken_after : Option (List ℕ)) (old_count new_count : ℕ) (text : List ℕ) (status : Status)
+    → status ≡ Done → Appends taken_before taken_after text → IsDue words left_before left_after old_count new_count status text
     → IsSolved left_before left_after taken_before taken_after
-solved_due words lb la tb ta rose text status is wrote (inl a) = solved_answer words lb la tb ta a.read text status is a.lost a.enough wrote a.answer
-solved_due words lb la tb ta rose text status is wrote (inr fault) = let e : status ≡ ReadFault = fault.fixed.status_is in cc
+solved_due words lb la tb ta oc nc text status is wrote (inl a) = solved_answer words lb la tb ta a.read text status is a.lost a.enough wrote a.answer
+solved_due words lb la tb ta oc nc text status is wrote (inr fault) = let e : status ≡ ReadFault = fault.fixed.status_is in cc
 
 -- what is due, and was delivered with `Done`, solves the problem
-pub solved : (words : List (List ℕ)) (left_before left_after taken_before taken_after : Option (List ℕ)) (rose_left rose_taken : Type 0)
+pub solved : (words : List (List ℕ)) (left_before left_after taken_before taken_after : Option (List ℕ)) (old_left new_left old_taken new_taken : ℕ)
     (due : Status) (text : List ℕ) (status : Status)
-    → IsDue words left_before left_after rose_left due text → IsDelivered due text taken_before taken_after rose_taken status
+    → IsDue words left_before left_after old_left new_left due text → IsDelivered due text taken_before taken_after old_taken new_taken status
     → status ≡ Done → IsSolved left_before left_after taken_before taken_after
-solved words lb la tb ta rl rt due text status is_due (inl whole) is =
-    solved_due words lb la tb ta rl text due (sym whole.0 ∙ is) whole.1 is_due
-solved words lb la tb ta rl rt due text status is_due (inr cut) is = let e : status ≡ WriteFault = cut.0 in cc
+solved words lb la tb ta ol nl ot nt due text status is_due (inl whole) is =
+    solved_due words lb la tb ta ol nl text due (sym whole.0 ∙ is) whole.1 is_due
+solved words lb la tb ta ol nl ot nt due text status is_due (inr cut) is = let e : status ≡ WriteFault = cut.0 in cc

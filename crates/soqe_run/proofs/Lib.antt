@@ -1,4 +1,5 @@
 pub mod Due
 pub mod Ends
+pub mod Faults
 pub mod Headline
 pub mod Responses

@@ -1,19 +1,18 @@
 //! From words and source to a reply, and from the reply to the sink.
-ghost use Rattle.std.specs.Prelude.{◌≡◌, ◌≤◌, map, string_bytes, IfOk};
+ghost use Rattle.std.specs.Prelude.{◌≡◌, ◌≢◌, ◌≤◌, map, string_bytes, IfOk, IsTrue};
 ghost use Rattle.soqe_io.specs.Faults.{Rose};
-ghost use Rattle.soqe_stream.specs.Read.{IsReadWithin};
+ghost use Rattle.soqe_io.specs.Read.{IsReadWithin};
 ghost use Rattle.soqe_run.specs.Answer.{Replies};
 ghost use Rattle.soqe_run.specs.Plan.{the_plan};
 ghost use Rattle.soqe_run.specs.Working.{Works};
 ghost use Rattle.soqe_run.specs.Headline.{IsSolved};
-ghost use Rattle.soqe_run.specs.Outcome.{EndsAs, IsDelivered, IsDue, most_read};
+ghost use Rattle.soqe_run.specs.Outcome.{EndsAs, IsDelivered, IsDue, most_read, says_no_read_failed};
 
 use crate::reply::{read_fault, too_long, usage};
 use crate::respond::respond;
 use crate::{Plan, Reply, Status, read_plan};
 use soqe_flow::Wanted;
-use soqe_io::{Failed, Mem, Sink, Source};
-use soqe_stream::{ReadError, read_up_to, write_whole};
+use soqe_io::{Failed, Mem, ReadError, Sink, Source, read_up_to, write_whole};
 use std::alloc::{AllocError, Global};
 
 /// The most bytes of a problem text.
@@ -24,16 +23,21 @@ const MAX_BYTES: u64 = 1_048_576;
 /// Where the words are taken it reads the source, then builds the whole text, and then writes it in pieces of at most
 /// 4,096 bytes. From the first write on it takes no memory. The order of refusals is: words, read fault, too long,
 /// syntax, names, sorts, a stop of the method; a failed write is answered in place of any of them. Want of memory may come
-/// at any step before the first write.
+/// at any step before the first write. Each status that says that no read failed, or that no write failed, comes only
+/// where the count is as before.
 pub fn run<S: Source, O: Sink>(alloc: Global, words: &[String], src: &mut S, out: &mut O) -> Status
+    requires source_open { S.IsOpen src.old }
+    requires sink_open { O.IsOpen out.old }
     ensures headline { result ≡ Status.Done
         → IsSolved (S.left src.old) (S.left src.new) (O.taken out.old) (O.taken out.new) }
     ensures ways { EndsAs
         (IsDue (map string_bytes words.now)
-        (S.left src.old) (S.left src.new) (Rose (S.faults src.old) (S.faults src.new)))
-        (O.taken out.old) (O.taken out.new) (Rose (O.faults out.old) (O.faults out.new)) result }
+        (S.left src.old) (S.left src.new) (S.faults src.old) (S.faults src.new))
+        (O.taken out.old) (O.taken out.new) (O.faults out.old) (O.faults out.new) result }
     ensures read { result ≡ Status.ReadFault → Rose (S.faults src.old) (S.faults src.new) }
     ensures write { result ≡ Status.WriteFault → Rose (O.faults out.old) (O.faults out.new) }
+    ensures no_read_fault { IsTrue (says_no_read_failed result) → S.faults src.new ≡ S.faults src.old }
+    ensures no_write_fault { result ≢ Status.WriteFault → O.faults out.new ≡ O.faults out.old }
     ensures within { IsReadWithin (most_read (the_plan (map string_bytes words.now)))
         (S.left src.old) (S.left src.new) }
     ensures source_later { S.faults src.old ≤ S.faults src.new }
@@ -47,8 +51,9 @@ pub fn run<S: Source, O: Sink>(alloc: Global, words: &[String], src: &mut S, out
 
 /// What is to be written, and with which status.
 fn prepare<S: Source>(alloc: Global, words: &[String], src: &mut S) -> Mem<Reply>
+    requires { S.IsOpen src.old }
     ensures due { IfOk result (λ reply. IsDue (map string_bytes words.now)
-        (S.left src.old) (S.left src.new) (Rose (S.faults src.old) (S.faults src.new))
+        (S.left src.old) (S.left src.new) (S.faults src.old) (S.faults src.new)
         reply.status reply.text.items) }
     ensures within { IsReadWithin (most_read (the_plan (map string_bytes words.now)))
         (S.left src.old) (S.left src.new) }
@@ -62,6 +67,7 @@ fn prepare<S: Source>(alloc: Global, words: &[String], src: &mut S) -> Mem<Reply
 
 /// What is to be written for a plan, and with which status.
 fn follow<S: Source>(alloc: Global, plan: Plan, src: &mut S) -> Mem<Reply>
+    requires { S.IsOpen src.old }
     ensures { Works S.left S.faults plan src.old src.new result }
 {
     match plan {
@@ -70,6 +76,7 @@ fn follow<S: Source>(alloc: Global, plan: Plan, src: &mut S) -> Mem<Reply>
 }
 
 fn elim<S: Source>(alloc: Global, wanted: Wanted, src: &mut S) -> Mem<Reply>
+    requires { S.IsOpen src.old }
     ensures { Works S.left S.faults (Plan.Elim wanted) src.old src.new result }
 {
     match read_up_to(alloc, src, MAX_BYTES + 1) {
@@ -91,8 +98,9 @@ fn reply_to(alloc: Global, wanted: Wanted, bytes: &[u8]) -> Mem<Reply>
 
 /// Writes the text, and answers its status or the fault of the sink. It takes no memory.
 fn deliver<O: Sink>(reply: &Reply, out: &mut O) -> Status
+    requires { O.IsOpen out.old }
     ensures ways { IsDelivered reply.now.status reply.now.text.items
-        (O.taken out.old) (O.taken out.new) (Rose (O.faults out.old) (O.faults out.new)) result }
+        (O.taken out.old) (O.taken out.new) (O.faults out.old) (O.faults out.new) result }
     ensures later { O.faults out.old ≤ O.faults out.new }
 {
     match write_whole(out, &reply.text) {
