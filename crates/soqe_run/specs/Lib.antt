@@ -3,6 +3,7 @@ pub mod Plan
 pub mod Reply
 pub mod Responds
 pub mod Answer
+pub mod AnswerLaws
 pub mod Outcome
 pub mod Headline
 pub mod Working

@@ -9,8 +9,10 @@
 //! - `reply`: a status and the text that goes with it
 //! - `respond`: the engine, from the bytes of a text to a reply
 //! - `run`: from words and source to a reply, and from the reply to the sink
+//! - `laws`: words and bytes have one answer
 #![tactic(auto)]
 
+mod laws;
 mod plan;
 mod reply;
 mod respond;
@@ -19,6 +21,7 @@ mod status;
 #[cfg(test)]
 mod tests;
 
+pub use laws::answers;
 pub use plan::{Plan, read_plan};
 pub use reply::Reply;
 pub use run::run;
