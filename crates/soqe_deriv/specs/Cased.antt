@@ -1,5 +1,5 @@
 -- When a line of a block by cases is valid, and what the cases have come to then.
-use Rattle.std.specs.Prelude.{◌≡◌, ℕ, suc, Bool, true, not, cond, List, [], ◌∷◌, ◌++◌, length, map, Option, Some, None}
+use Rattle.std.specs.Prelude.{◌≡◌, ℕ, suc, Bool, true, not, cond, List, [], ◌∷◌, ◌++◌, length, Option, Some, None}
 use Rattle.soqe_term.specs.declared.term.Var.{Var}
 use Rattle.soqe_form.specs.declared.form.Form.{Form}
 use Rattle.soqe_form.specs.declared.form.Pred.TheVariants.{Bound}
@@ -13,7 +13,7 @@ use Rattle.soqe_norm.specs.Nnf.{nnf}
 use Rattle.soqe_ack.specs.declared.steps.Sign.{Sign}
 use Rattle.soqe_ack.specs.declared.steps.DlsStep.TheVariants as step
 use Rattle.soqe_ack.specs.Acked.{IsAcked}
-use Rattle.soqe_ack.specs.GuardLaws.{AreDistinct}
+use Rattle.soqe_ack.specs.GuardLaws.{AreDistinct, sorts_of}
 use Rattle.soqe_ack.specs.Signs.{is_pos}
 use Rattle.soqe_ack.specs.Tries.{for_all}
 use Rattle.soqe_deriv.specs.declared.document.Line.{Line}
@@ -47,9 +47,9 @@ abbrev pub cases_come_to : Bool → Option Form → List Case → Option Present
 cases_come_to exists (Some f) [] None given = Some (any_for exists given)
 cases_come_to exists _ _ _ given = None
 
--- the value is the other one, up to the numbers of the parameters, which are distinct and bear the sorts of the predicate's arguments
+-- the value is the other one, up to the numbers of the parameters, which are distinct and have the sorts of the arguments
 pub record IsValueOf (args : List ℕ) (params : List Var) (value : Form) (shown_params : List Var) (shown : Form) : Type 0 where
-  pub arguments : map (λ x. x.sort) shown_params ≡ args
+  pub sorts : sorts_of shown_params ≡ args
   pub distinct : AreDistinct shown_params
   pub same_value : same (for_all shown_params shown) (for_all params value) ≡ true
 

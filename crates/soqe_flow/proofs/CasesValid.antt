@@ -3,7 +3,7 @@
 -- A case line shows a tidy case, which is the case that is due with other numbers for what is bound. An ack line shows the
 -- value of a try with other numbers, and the laws of shown values ask that it is well sorted below its parameters: so each
 -- case is known to be well sorted where the block stands.
-use Rattle.std.proofs.Common.{◌≡◌, ℕ, suc, Bool, true, eqb, ◌||◌, List, [], ◌∷◌, ◌++◌, map, Some, None, refl, sym, ◌∙◌, ap, subst, append_assoc, append-nil}
+use Rattle.std.proofs.Common.{◌≡◌, ℕ, suc, Bool, true, List, [], ◌∷◌, ◌++◌, map, Some, None, refl, sym, ◌∙◌, ap, subst, append_assoc, append-nil}
 use Rattle.std.specs.List.{AllByRecursion}
 use Rattle.soqe_term.specs.declared.term.Var.{Var}
 use Rattle.soqe_term.specs.Sorting.{Sorting, over_bound}
@@ -23,14 +23,14 @@ use Rattle.soqe_norm.specs.Folds.{case_form}
 use Rattle.soqe_norm.proofs.CaseSorts.{IsSorted}
 use Rattle.soqe_ack.specs.declared.steps.DlsStep.{DlsStep}
 use Rattle.soqe_ack.specs.declared.steps.DlsStep.TheVariants as step
-use Rattle.soqe_ack.specs.Acked.{AreParameters, IsAcked, is_used}
+use Rattle.soqe_ack.specs.Acked.{IsAcked, is_used}
 use Rattle.soqe_ack.specs.AckedLaws.{below}
 use Rattle.soqe_ack.specs.Signs.{is_pos}
 use Rattle.soqe_ack.specs.Tries.{positive, negative}
 use Rattle.soqe_dls.specs.ShownCases.{IsTidyCase, IsShown}
 use Rattle.soqe_ack.proofs.AckedSorts.{value-is-sorted}
 use Rattle.soqe_ack.proofs.Applies.{acked-of}
-use Rattle.soqe_ack.proofs.ParameterNumbers.{parameters-distinct}
+use Rattle.soqe_ack.proofs.ParameterNumbers.{parameters-sorts, parameters-distinct}
 use Rattle.soqe_dls.proofs.Shown.{shown-same, shown-distinct}
 use Rattle.soqe_dls.specs.Runs.{Outcome, Reached, NotReached, after, IsRun, no_more, reached, stops}
 use Rattle.soqe_text.specs.declared.problem.Problem.{Problem}
@@ -60,19 +60,12 @@ module _ (keep : List ℕ) (p : PVar) (c : Case) (vars : List Var) (fs : List Fo
   tidy-case-sorted : (e : Sorting) → sorted (over_bound e p.num p.args) (form_of c) ≡ true → sorted e (Ex2 p (case_form vars fs)) ≡ true
   tidy-case-sorted e o = below-sorted e p (case_form vars fs) ∙ sorted-same (case_form vars fs) (form_of c) tidy-case-same (over_bound e p.num p.args) ∙ o
 
--- parameters bear the sorts that they were chosen for
-parameter-sorts : (used : ℕ → Bool) (sorts : List ℕ) (xs : List Var) → AreParameters used sorts xs → map (λ x. x.sort) xs ≡ sorts
-parameter-sorts used [] [] h = refl
-parameter-sorts used [] (x ∷ xs) h = absurd h
-parameter-sorts used (s ∷ sorts) [] h = absurd h
-parameter-sorts used (s ∷ sorts) (x ∷ xs) h = λ i. h.0 i ∷ parameter-sorts (λ n. eqb n x.num || used n) sorts xs h.1.1 i
-
 -- a value as it is shown is the value of the try
 shown-value : (s : Bool) (p : PVar) (keep : List ℕ) (vars : List Var) (fs : List Form) (params : List Var) (value form : Form) (ys : List Var) (shown : Form)
     → IsAcked s p keep vars fs params value form → IsShown keep params value ys shown → (e : Sorting) → sorted e (Ex2 p (case_form vars fs)) ≡ true
     → IsValueOf p.args params value ys shown
 shown-value s p keep vars fs params value form ys shown a h e o = record {
-  arguments = parameter-sorts _ _ ys h.numbers ∙ parameter-sorts (is_used keep vars fs) p.args params a.parameters;
+  sorts = parameters-sorts _ (map (λ x. x.sort) params) ys h.numbers ∙ parameters-sorts (is_used keep vars fs) p.args params a.parameters;
   distinct = (shown-distinct keep params value ys shown h).0;
   same_value = shown-same keep params value ys shown (parameters-distinct (is_used keep vars fs) p.args params a.parameters) h (below e vars)
       (value-is-sorted s p keep vars fs params value form a e o);
