@@ -4,6 +4,8 @@
 //! ample memory, and each copy is compared with what it was made of.
 #![tactic(auto)]
 
+pub mod notation;
+
 #[cfg(test)]
 mod form;
 #[cfg(test)]
