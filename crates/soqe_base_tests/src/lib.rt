@@ -4,12 +4,11 @@
 //! ample memory, and each copy is compared with what it was made of.
 #![tactic(auto)]
 
-pub mod notation;
-
 #[cfg(test)]
 mod form;
 #[cfg(test)]
 mod norm;
+pub mod notation;
 #[cfg(test)]
 mod psub;
 #[cfg(test)]

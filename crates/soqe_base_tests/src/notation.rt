@@ -156,7 +156,11 @@ pub fn formula(alloc: Global, text: &[u8]) -> Mem<Boxed<Form>> {
         }
     }
     let form = last(&mut forms)?;
-    if forms.is_empty() { Ok(form) } else { Err(AllocError) }
+    if forms.is_empty() {
+        Ok(form)
+    } else {
+        Err(AllocError)
+    }
 }
 
 fn put(out: &mut Vec<u8>, sign: u8) -> Mem<()> {
@@ -165,7 +169,14 @@ fn put(out: &mut Vec<u8>, sign: u8) -> Mem<()> {
 }
 
 fn put_number(out: &mut Vec<u8>, num: u64) -> Mem<()> {
-    put(out, if num < 10 { b'0' + (num % 10) as u8 } else { b'?' })
+    put(
+        out,
+        if num < 10 {
+            b'0' + (num % 10) as u8
+        } else {
+            b'?'
+        },
+    )
 }
 
 fn put_variable(out: &mut Vec<u8>, term: &Term) -> Mem<()> {

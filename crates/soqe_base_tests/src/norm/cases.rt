@@ -1,5 +1,6 @@
-//! Cases, shown one behind another: the signs of the variables, each conjunct with `,` behind it, and `;`.
-use super::{P, made, put, show, sign_of};
+//! Cases, written one behind another: `E` with its number for each variable, each conjunct with `,` behind it, and `;`.
+use super::P;
+use crate::notation::{formula, spelled, write};
 use soqe_norm::case_list::{Case, CaseList};
 use soqe_norm::cases::cases;
 use soqe_norm::folding::{case_form, made_or, or_next};
@@ -9,13 +10,15 @@ use std::test::Fail;
 
 fn show_case(out: &mut Vec<u8>, case: &Case) -> Mem<()> {
     for x in case.vars.as_slice() {
-        put(out, sign_of(x.num, [b'e', b'x', b'y', b'z']))?;
+        out.push(b'E')?;
+        out.push(b'0' + (x.num % 10) as u8)?;
     }
     for form in case.conj.as_slice() {
-        show(out, form.get())?;
-        put(out, b',')?;
+        write(out, form.get())?;
+        out.push(b',')?;
     }
-    put(out, b';')
+    out.push(b';')?;
+    Ok(())
 }
 
 fn shown(alloc: Global, list: &CaseList) -> Mem<Vec<u8>> {
@@ -28,7 +31,7 @@ fn shown(alloc: Global, list: &CaseList) -> Mem<Vec<u8>> {
 
 fn cases_of(alloc: Global, text: &[u8], kept: &[u64]) -> Mem<Vec<u8>> {
     let keep = Nums::from_vec(Vec::from_slice(alloc, kept)?);
-    let form = made(alloc, text)?;
+    let form = formula(alloc, text)?;
     let list = cases(alloc, form.get(), &P, &keep)?;
     let copy = list.copy(alloc)?;
     shown(alloc, &copy)
@@ -39,22 +42,26 @@ fn finds_cases(rt: HostRuntime) -> Result<(), Fail> {
     let alloc = rt.alloc();
     // The formula, the numbers to keep out, and its cases for the predicate P.
     let table: [(&[u8], &[u64], &[u8]); 16] = [
-        (b"d", &[], b"d,;"),
-        (b"dq&", &[], b"dq&,;"),
-        (b"p", &[], b"p,;"),
-        (b"dp&", &[], b"d,p,;"),
-        (b"dp|", &[], b"d,;p,;"),
-        (b"dq&p&", &[], b"dq&,p,;"),
-        (b"dq|pt||", &[], b"dq|,;p,;t,;"),
-        (b"pd|qp|&", &[], b"p,q,;p,p,;d,q,;d,p,;"),
-        (b"p0&e", &[], b"ep,0,;"),
-        (b"p0&e", &[0], b"xp,1,;"),
-        (b"p0e&", &[], b"p,0e,;"),
-        (b"p0|ep0|e&", &[], b"exp,p,;exp,1,;ex0,p,;ex0,1,;"),
-        (b"p0|e0&", &[], b"xp,0,;x1,0,;"),
-        (b"p~p0>a&", &[], b"p~,p0>a,;"),
-        (b"pdp&E|", &[], b"p,;dp&E,;"),
-        (b"pd|E", &[], b"pd|E,;"),
+        (b"d0", &[], b"d0,;"),
+        (b"&d0p1", &[], b"&d0p1,;"),
+        (b"p0", &[], b"p0,;"),
+        (b"&d0p0", &[], b"d0,p0,;"),
+        (b"|d0p0", &[], b"d0,;p0,;"),
+        (b"&&d0p1p0", &[], b"&d0p1,p0,;"),
+        (b"||d0p1|p0T", &[], b"|d0p1,;p0,;T,;"),
+        (b"&|p0d0|p1p0", &[], b"p0,p1,;p0,p0,;d0,p1,;d0,p0,;"),
+        (b"E0&p0d00", &[], b"E0p0,d00,;"),
+        (b"E0&p0d00", &[0], b"E1p0,d01,;"),
+        (b"&p0E0d00", &[], b"p0,E0d00,;"),
+        (
+            b"&E0|p0d00E0|p0d00",
+            &[],
+            b"E0E1p0,p0,;E0E1p0,d01,;E0E1d00,p0,;E0E1d00,d01,;",
+        ),
+        (b"&E0|p0d00d00", &[], b"E1p0,d00,;E1d01,d00,;"),
+        (b"&-p0A0>p0d00", &[], b"-p0,A0>p0d00,;"),
+        (b"|p0X0&d0p0", &[], b"p0,;X0&d0p0,;"),
+        (b"X0|p0d0", &[], b"X0|p0d0,;"),
     ];
     for (text, kept, result) in table {
         let found = cases_of(alloc, text, kept)?;
@@ -66,7 +73,7 @@ fn finds_cases(rt: HostRuntime) -> Result<(), Fail> {
 /// The cases, each as one formula, joined by `|`.
 fn joined(alloc: Global, text: &[u8]) -> Mem<Vec<u8>> {
     let keep = Nums::new(alloc);
-    let form = made(alloc, text)?;
+    let form = formula(alloc, text)?;
     let list = cases(alloc, form.get(), &P, &keep)?;
     let mut any = None;
     for case in list.as_slice() {
@@ -74,19 +81,17 @@ fn joined(alloc: Global, text: &[u8]) -> Mem<Vec<u8>> {
         any = Some(or_next(alloc, any, next)?);
     }
     let any = made_or(alloc, any, false)?;
-    let mut out = Vec::new(alloc);
-    show(&mut out, any.get())?;
-    Ok(out)
+    spelled(alloc, any.get())
 }
 
 #[test]
 fn joins_cases(rt: HostRuntime) -> Result<(), Fail> {
     let alloc = rt.alloc();
     let table: [(&[u8], &[u8]); 4] = [
-        (b"dp|", b"dp|"),
-        (b"dq&p&", b"dq&p&"),
-        (b"p0&e", b"p0&e"),
-        (b"pd|qp|&", b"pq&pp&|dq&|dp&|"),
+        (b"|d0p0", b"|d0p0"),
+        (b"&&d0p1p0", b"&&d0p1p0"),
+        (b"E0&p0d00", b"E0&p0d00"),
+        (b"&|p0d0|p1p0", b"|||&p0p1&p0p0&d0p1&d0p0"),
     ];
     for (text, result) in table {
         let found = joined(alloc, text)?;
