@@ -1,101 +1,41 @@
 //! Tidy forms of formulas written by hand.
-use soqe_form::{Form, PVar, Pred, make};
-use soqe_term::{Mem, Nums, Sorts, Term, Terms, Var};
+use crate::notation::{formula, is_spelled};
+use soqe_form::{Form, make};
+use soqe_term::{Mem, Nums, Term, Var};
 use soqe_tidy::{tidy, tidy_owned};
 use sqlite_items::Boxed;
 use std::alloc::Global;
 use std::test::Fail;
 
-fn variable(num: u64) -> Var {
-    Var { num, sort: 0 }
-}
-
-/// The equation of two variables of sort 0.
-fn equation(alloc: Global, m: u64, n: u64) -> Mem<Boxed<Form>> {
-    let left = Boxed::new(alloc, Term::Var(Var { num: m, sort: 0 }))?;
-    let right = Boxed::new(alloc, Term::Var(Var { num: n, sort: 0 }))?;
-    Boxed::new(alloc, Form::Equal(left, right))
-}
-
-fn number(term: &Term) -> Option<u64> {
-    match term {
-        Term::Var(x) => Some(x.num),
-        _ => None,
-    }
-}
-
-/// The numbers of the two variables of such an equation.
-fn sides(form: &Form) -> Option<(u64, u64)> {
-    match form {
-        Form::Equal(s, t) => Some((number(s.get())?, number(t.get())?)),
-        _ => None,
-    }
-}
-
-/// `all x. all y. m = n`, by the numbers of its two binders and its two variables.
-fn quantified(alloc: Global, nums: [u64; 4]) -> Mem<Boxed<Form>> {
-    let [x, y, m, n] = nums;
-    let body = equation(alloc, m, n)?;
-    let body = make::for_all(alloc, variable(y), body)?;
-    make::for_all(alloc, variable(x), body)
-}
-
-fn numbers_below(x: Var, form: &Form) -> Option<[u64; 4]> {
-    match form {
-        Form::All(y, body) => {
-            let (m, n) = sides(body.get())?;
-            Some([x.num, y.num, m, n])
-        }
-        _ => None,
-    }
-}
-
-/// The numbers of such a formula.
-fn numbers(form: &Form) -> Option<[u64; 4]> {
-    match form {
-        Form::All(x, body) => numbers_below(*x, body.get()),
-        _ => None,
-    }
-}
-
-/// Whether the formula of the first numbers becomes that of the second ones.
-fn becomes(alloc: Global, old: [u64; 4], keep: &[u64], new: [u64; 4]) -> Mem<bool> {
+fn becomes(alloc: Global, old: &[u8], keep: &[u64], new: &[u8]) -> Mem<bool> {
     let keep = Nums::from_vec(keep.to_vec(alloc)?);
-    let form = quantified(alloc, old)?;
+    let form = formula(alloc, old)?;
     let form = tidy_owned(alloc, form, &keep)?;
-    Ok(numbers(form.get()) == Some(new))
+    is_spelled(alloc, form.get(), new)
 }
 
-/// Whether a lent formula of the first numbers becomes that of the second ones, and is afterwards as it was.
-fn becomes_lent(alloc: Global, old: [u64; 4], keep: &[u64], new: [u64; 4]) -> Mem<bool> {
+/// Whether the lent formula becomes the new one, and is afterwards as it was.
+fn becomes_lent(alloc: Global, old: &[u8], keep: &[u64], new: &[u8]) -> Mem<bool> {
     let keep = Nums::from_vec(keep.to_vec(alloc)?);
-    let form = quantified(alloc, old)?;
+    let form = formula(alloc, old)?;
     let made = tidy(alloc, form.get(), &keep)?;
-    Ok(numbers(made.get()) == Some(new) && numbers(form.get()) == Some(old))
-}
-
-/// Whether this is `ex2 P7. P7`.
-fn is_block(form: &Form) -> bool {
-    match form {
-        Form::Ex2(p, body) => match body.get() {
-            Form::Atom(Pred::Bound(n), _) => p.num == 7 && *n == 7,
-            _ => false,
-        },
-        _ => false,
-    }
+    let is_new = is_spelled(alloc, made.get(), new)?;
+    let is_old = is_spelled(alloc, form.get(), old)?;
+    Ok(is_new && is_old)
 }
 
 #[test]
 fn an_outer_binder_has_its_number_first(rt: HostRuntime) -> Result<(), Fail> {
     let alloc = rt.alloc();
-    let cases: [([u64; 4], &[u64], [u64; 4]); 7] = [
-        ([5, 6, 5, 6], &[], [0, 1, 0, 1]),
-        ([0, 1, 0, 1], &[], [0, 1, 0, 1]),
-        ([5, 6, 6, 6], &[], [0, 0, 0, 0]),
-        ([5, 5, 5, 5], &[], [0, 0, 0, 0]),
-        ([5, 6, 5, 6], &[3, 0], [1, 2, 1, 2]),
-        ([5, 6, 0, 6], &[], [1, 1, 0, 1]),
-        ([5, 6, 6, 9], &[1, 0], [2, 2, 2, 9]),
+    // The formula, the numbers to keep out, and the result.
+    let cases: [(&[u8], &[u64], &[u8]); 7] = [
+        (b"A5A6=56", &[], b"A0A1=01"),
+        (b"A0A1=01", &[], b"A0A1=01"),
+        (b"A5A6=66", &[], b"A0A0=00"),
+        (b"A5A5=55", &[], b"A0A0=00"),
+        (b"A5A6=56", &[3, 0], b"A1A2=12"),
+        (b"A5A6=06", &[], b"A1A1=01"),
+        (b"A5A6=69", &[1, 0], b"A2A2=29"),
     ];
     for (old, keep, new) in cases {
         assert!(rt; becomes(alloc, old, keep, new)?);
@@ -106,11 +46,11 @@ fn an_outer_binder_has_its_number_first(rt: HostRuntime) -> Result<(), Fail> {
 #[test]
 fn a_lent_formula_stays(rt: HostRuntime) -> Result<(), Fail> {
     let alloc = rt.alloc();
-    let cases: [([u64; 4], &[u64], [u64; 4]); 4] = [
-        ([5, 6, 5, 6], &[], [0, 1, 0, 1]),
-        ([0, 1, 0, 1], &[], [0, 1, 0, 1]),
-        ([5, 6, 5, 6], &[3, 0], [1, 2, 1, 2]),
-        ([5, 6, 0, 6], &[], [1, 1, 0, 1]),
+    let cases: [(&[u8], &[u64], &[u8]); 4] = [
+        (b"A5A6=56", &[], b"A0A1=01"),
+        (b"A0A1=01", &[], b"A0A1=01"),
+        (b"A5A6=56", &[3, 0], b"A1A2=12"),
+        (b"A5A6=06", &[], b"A1A1=01"),
     ];
     for (old, keep, new) in cases {
         assert!(rt; becomes_lent(alloc, old, keep, new)?);
@@ -121,23 +61,25 @@ fn a_lent_formula_stays(rt: HostRuntime) -> Result<(), Fail> {
 #[test]
 fn binders_of_predicates_stay(rt: HostRuntime) -> Result<(), Fail> {
     let alloc = rt.alloc();
-    let atom = Boxed::new(alloc, Form::Atom(Pred::Bound(7), Terms::Nil))?;
-    let pred = PVar {
-        num: 7,
-        args: Sorts::new(alloc),
-    };
-    let block = make::exists_table(alloc, pred, atom)?;
-    let block = tidy_owned(alloc, block, &Nums::new(alloc))?;
-    assert!(rt; is_block(block.get()));
+    assert!(rt; becomes(alloc, b"X7p7", &[], b"X7p7")?);
     Ok(())
+}
+
+fn variable(num: u64) -> Var {
+    Var { num, sort: 0 }
+}
+
+/// `x = x` for the variable of the number, which may have more digits than the notation has.
+fn equation(alloc: Global, num: u64) -> Mem<Boxed<Form>> {
+    make::equation(alloc, Term::Var(variable(num)), Term::Var(variable(num)))
 }
 
 /// `all x.` before the conjunction of `n = n` for each number below the count but the one left out, and of `x = x`.
 fn over_many(alloc: Global, x: u64, count: u64, left_out: u64) -> Mem<Boxed<Form>> {
-    let mut body = equation(alloc, x, x)?;
+    let mut body = equation(alloc, x)?;
     for n in 0..count {
         if n != left_out {
-            let next = equation(alloc, n, n)?;
+            let next = equation(alloc, n)?;
             body = make::conjunction(alloc, body, next)?;
         }
     }
