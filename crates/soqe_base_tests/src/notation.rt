@@ -3,16 +3,17 @@
 //! | text | formula |
 //! |---|---|
 //! | `T`, `F` | true and false |
-//! | `=01`, `=0f1` | `x0 = x1` and `x0 = f(x1)` |
+//! | `=01`, `=0f1`, `=0g1` | `x0 = x1`, and `x0 = f(x1)` for the functions 0 and 1 |
 //! | `d7`, `d730` | the declared predicate 7 without arguments, and of `x3` and `x0` |
 //! | `p0`, `p03` | the bound predicate 0 without arguments, and of `x3` |
 //! | `-g` | not `g` |
 //! | `&gh`, `\|gh`, `>gh`, `~gh` | `g` and `h`, `g` or `h`, `g` implies `h`, `g` is equivalent to `h` |
 //! | `A1g`, `E1g` | `g` for all `x1`, and for some `x1` |
+//! | `A12g`, `E12g` | the same for a variable of sort 2, where no sort means sort 0 |
 //! | `U0g`, `X0g` | `g` for all predicates 0 without arguments, and for some such predicate |
 //! | `U000g` | the same for predicates with two arguments of sort 0: the sorts follow the number |
 //!
-//! Each variable and each value of `f` has the sort 0. The writer puts `?` where a formula has what the notation lacks, and the
+//! Each other variable and each value of a function has the sort 0. The writer puts `?` where a formula has what the notation lacks, and the
 //! reader takes a text that is no formula as want of memory, so that the test fails.
 use soqe_form::{Form, PVar, Pred, make};
 use soqe_term::{Mem, Sorts, Sym, Term, Terms, Var};
@@ -52,11 +53,11 @@ fn with_digit(alloc: Global, digit: u8, rest: Boxed<Terms>) -> Mem<Boxed<Terms>>
     Boxed::new(alloc, Terms::Cons(first, rest))
 }
 
-/// The terms with `f` of the first in its place.
-fn with_value(alloc: Global, terms: Boxed<Terms>) -> Mem<Boxed<Terms>> {
+/// The terms with the function's value at the first of them in its place.
+fn with_value(alloc: Global, function: u32, terms: Boxed<Terms>) -> Mem<Boxed<Terms>> {
     let (first, rest) = split(terms)?;
     let none = Boxed::new(alloc, Terms::Nil)?;
-    let value = Term::App(Sym::Fun(0), 0, Terms::Cons(first, none));
+    let value = Term::App(Sym::Fun(function), 0, Terms::Cons(first, none));
     let value = Boxed::new(alloc, value)?;
     Boxed::new(alloc, Terms::Cons(value, rest))
 }
@@ -90,13 +91,21 @@ fn add_sorts(terms: &Terms, sorts: &mut Sorts) -> Mem<()> {
     }
 }
 
+/// The variable of the number and of the sort, which is 0 if none is written.
+fn sorted(num: u64, sorts: &Sorts) -> Var {
+    match sorts.as_slice().first() {
+        Some(sort) => Var { num, sort: *sort },
+        None => variable(num),
+    }
+}
+
 fn quantified(alloc: Global, sign: u8, terms: Boxed<Terms>, f: Boxed<Form>) -> Mem<Boxed<Form>> {
     let (num, rest) = numbered(terms)?;
     let mut args = Sorts::new(alloc);
     add_sorts(rest.get(), &mut args)?;
     match sign {
-        b'A' => make::for_all(alloc, variable(num), f),
-        b'E' => make::exists(alloc, variable(num), f),
+        b'A' => make::for_all(alloc, sorted(num, &args), f),
+        b'E' => make::exists(alloc, sorted(num, &args), f),
         b'U' => make::for_all_tables(alloc, PVar { num, args }, f),
         _ => make::exists_table(alloc, PVar { num, args }, f),
     }
@@ -147,7 +156,8 @@ pub fn formula(alloc: Global, text: &[u8]) -> Mem<Boxed<Form>> {
     for byte in text.iter().rev() {
         match *byte {
             b'0'..=b'9' => terms = with_digit(alloc, *byte, terms)?,
-            b'f' => terms = with_value(alloc, terms)?,
+            b'f' => terms = with_value(alloc, 0, terms)?,
+            b'g' => terms = with_value(alloc, 1, terms)?,
             sign => {
                 let form = signed(alloc, sign, terms, &mut forms)?;
                 forms.push(form)?;
@@ -186,10 +196,18 @@ fn put_variable(out: &mut Vec<u8>, term: &Term) -> Mem<()> {
     }
 }
 
+fn put_function(out: &mut Vec<u8>, function: &Sym) -> Mem<()> {
+    match function {
+        Sym::Fun(0) => put(out, b'f'),
+        Sym::Fun(1) => put(out, b'g'),
+        _ => put(out, b'?'),
+    }
+}
+
 fn put_term(out: &mut Vec<u8>, term: &Term) -> Mem<()> {
     match term {
-        Term::App(_, _, Terms::Cons(first, _)) => {
-            put(out, b'f')?;
+        Term::App(function, _, Terms::Cons(first, _)) => {
+            put_function(out, function)?;
             put_variable(out, first.get())
         }
         _ => put_variable(out, term),
@@ -229,6 +247,14 @@ fn put_binder(out: &mut Vec<u8>, sign: u8, num: u64, sorts: &[u32]) -> Mem<()> {
     Ok(())
 }
 
+fn put_quantifier(out: &mut Vec<u8>, sign: u8, x: &Var) -> Mem<()> {
+    if x.sort == 0 {
+        put_binder(out, sign, x.num, &[])
+    } else {
+        put_binder(out, sign, x.num, &[x.sort])
+    }
+}
+
 /// Writes the formula's first sign with its numbers.
 fn put_head(out: &mut Vec<u8>, form: &Form) -> Mem<()> {
     match form {
@@ -245,8 +271,8 @@ fn put_head(out: &mut Vec<u8>, form: &Form) -> Mem<()> {
         Form::Or(_, _) => put(out, b'|'),
         Form::Imp(_, _) => put(out, b'>'),
         Form::Iff(_, _) => put(out, b'~'),
-        Form::All(x, _) => put_binder(out, b'A', x.num, &[]),
-        Form::Ex(x, _) => put_binder(out, b'E', x.num, &[]),
+        Form::All(x, _) => put_quantifier(out, b'A', x),
+        Form::Ex(x, _) => put_quantifier(out, b'E', x),
         Form::All2(p, _) => put_binder(out, b'U', p.num, p.args.as_slice()),
         Form::Ex2(p, _) => put_binder(out, b'X', p.num, p.args.as_slice()),
     }

@@ -1,33 +1,21 @@
 //! Free variables, marks and sorts of formulas written by hand.
-ghost use Rattle.std.specs.Prelude.{◌≡◌};
-
-use super::equation;
+use crate::notation::formula;
 use soqe_form::{
-    Form, Marks, PVars, free_vars, make, mark_form, mark_numbers, mark_term, mark_variables,
-    well_sorted,
+    Marks, PVars, free_vars, mark_form, mark_numbers, mark_term, mark_variables, well_sorted,
 };
-use soqe_term::{Mem, Signature, SkolemSigs, Term, Var, Vars};
-use sqlite_items::Boxed;
-use std::alloc::Global;
+use soqe_term::{Signature, SkolemSigs, Term, Var, Vars};
 use std::test::Fail;
 
-fn var(num: u64) -> Var
-    ensures { result.sort ≡ 0 }
-{
+fn var(num: u64) -> Var {
     Var { num, sort: 0 }
 }
 
-/// `x1 = x2 & all x1. x1 = x3`
-fn with_binder(alloc: Global) -> Mem<Boxed<Form>> {
-    let left = equation(alloc, 1, 2)?;
-    let right = make::for_all(alloc, var(1), equation(alloc, 1, 3)?)?;
-    make::conjunction(alloc, left, right)
-}
+const WITH_BINDER: &[u8] = b"&=12A1=13";
 
 #[test]
 fn free_variables_are_listed_once(rt: HostRuntime) -> Result<(), Fail> {
     let alloc = rt.alloc();
-    let form = with_binder(alloc)?;
+    let form = formula(alloc, WITH_BINDER)?;
     let vars = free_vars(alloc, form.get())?;
     assert!(rt; vars.as_slice() == [var(1), var(2), var(3)].as_slice());
     Ok(())
@@ -46,7 +34,7 @@ fn the_numbers_of_lists_are_marked(rt: HostRuntime) -> Result<(), Fail> {
 #[test]
 fn the_numbers_of_terms_and_formulas_are_marked(rt: HostRuntime) -> Result<(), Fail> {
     let alloc = rt.alloc();
-    let form = with_binder(alloc)?;
+    let form = formula(alloc, WITH_BINDER)?;
     let mut marks = Marks::new(alloc);
     mark_form(form.get(), &mut marks)?;
     assert!(rt; !marks.has(0) && marks.has(1) && marks.has(2) && marks.has(3));
@@ -62,7 +50,7 @@ fn each_variable_has_a_sort(rt: HostRuntime) -> Result<(), Fail> {
     let skolems = SkolemSigs::new(alloc);
     let preds = PVars::new(alloc);
     let mut free = Vars::new(alloc);
-    let form = with_binder(alloc)?;
+    let form = formula(alloc, WITH_BINDER)?;
     assert!(rt; !well_sorted(&signature, &skolems, &free, &preds, form.get()));
     free.push(var(1))?;
     free.push(var(2))?;
