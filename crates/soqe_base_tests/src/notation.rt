@@ -6,15 +6,16 @@
 //! | `=01`, `=0f1`, `=0g1` | `x0 = x1`, and `x0 = f(x1)` for the functions 0 and 1 |
 //! | `d7`, `d730` | the declared predicate 7 without arguments, and of `x3` and `x0` |
 //! | `p0`, `p03` | the bound predicate 0 without arguments, and of `x3` |
-//! | `-g` | not `g` |
-//! | `&gh`, `\|gh`, `>gh`, `~gh` | `g` and `h`, `g` or `h`, `g` implies `h`, `g` is equivalent to `h` |
-//! | `A1g`, `E1g` | `g` for all `x1`, and for some `x1` |
-//! | `A12g`, `E12g` | the same for a variable of sort 2, where no sort means sort 0 |
-//! | `U0g`, `X0g` | `g` for all predicates 0 without arguments, and for some such predicate |
-//! | `U000g` | the same for predicates with two arguments of sort 0: the sorts follow the number |
+//! | `-a` | not `a` |
+//! | `&ab`, `\|ab`, `>ab`, `~ab` | `a` and `b`, `a` or `b`, `a` implies `b`, `a` is equivalent to `b` |
+//! | `A1a`, `E1a` | `a` for all `x1`, and for some `x1` |
+//! | `A12a`, `E12a` | the same for a variable of sort 2, where no sort means sort 0 |
+//! | `U0a`, `X0a` | `a` for all predicates 0 without arguments, and for some such predicate |
+//! | `U000a` | the same for predicates with two arguments of sort 0: the sorts follow the number |
 //!
-//! Each other variable and each value of a function has the sort 0. The writer puts `?` where a formula has what the notation lacks, and the
-//! reader takes a text that is no formula as want of memory, so that the test fails.
+//! Each other variable and each value of a function has the sort 0. The writer puts `?` where a formula has what the notation
+//! lacks, and it leaves out the sorts of variables in terms. The reader fails as if memory were short where a text is no
+//! formula, so that the test fails.
 use soqe_form::{Form, PVar, Pred, make};
 use soqe_term::{Mem, Sorts, Sym, Term, Terms, Var};
 use sqlite_items::Boxed;
