@@ -1,7 +1,8 @@
 //! Tests of the crates of terms and formulas, which stand apart so that a changed test proves none of those crates anew.
 //!
-//! One module for each crate, with tables of cases that were worked out by hand. Each public call is made once at least, with
-//! ample memory, and each copy is compared with what it was made of.
+//! `notation` is how formulas are written in the tables. Then there is one module for each crate, with tables of cases that were
+//! worked out by hand. Each public call is made once at least, with ample memory, and each copy is compared with what it was
+//! made of.
 #![tactic(auto)]
 
 #[cfg(test)]

@@ -1,8 +1,9 @@
 //! Documents with a line of each kind, and their texts by hand.
 use soqe_ack::{DlsStep, Sign};
+use soqe_base_tests::notation::formula;
 use soqe_deriv::{Document, Line, Lines, Method, Stop, write_document};
-use soqe_form::{Form, PVar, Pred};
-use soqe_term::{Kind, Mem, Signature, Sorts, Terms, Var, Vars};
+use soqe_form::{Form, Pred};
+use soqe_term::{Kind, Mem, Signature, Sorts, Var, Vars};
 use soqe_text::Problem;
 use sqlite_items::Boxed;
 use std::alloc::{AllocError, Global};
@@ -27,19 +28,8 @@ fn names(alloc: Global) -> Mem<Signature> {
     Ok(signature)
 }
 
-fn atom(alloc: Global, pred: Pred) -> Mem<Boxed<Form>> {
-    Boxed::new(alloc, Form::Atom(pred, Terms::Nil))
-}
-
-/// `ex2 P. P`
-fn block(alloc: Global) -> Mem<Boxed<Form>> {
-    let body = atom(alloc, Pred::Bound(0))?;
-    let args = Sorts::new(alloc);
-    Boxed::new(alloc, Form::Ex2(PVar { num: 0, args }, body))
-}
-
 fn push_opening(alloc: Global, lines: &mut Lines) -> Mem<()> {
-    let goal = block(alloc)?;
+    let goal = formula(alloc, b"X0p0")?;
     lines.push(Line::Start(goal))?;
     let method = Method::Sign;
     let pred = Pred::Bound(0);
@@ -47,17 +37,17 @@ fn push_opening(alloc: Global, lines: &mut Lines) -> Mem<()> {
 }
 
 fn push_replace(alloc: Global, lines: &mut Lines, value: bool) -> Mem<()> {
-    let form = atom(alloc, Pred::Decl(0))?;
+    let form = formula(alloc, b"d0")?;
     lines.push(Line::Replace { value, form })
 }
 
 fn push_close(alloc: Global, lines: &mut Lines) -> Mem<()> {
-    let form = atom(alloc, Pred::Decl(0))?;
+    let form = formula(alloc, b"d0")?;
     lines.push(Line::Close(form))
 }
 
 fn push_result(alloc: Global, lines: &mut Lines) -> Mem<()> {
-    let form = atom(alloc, Pred::Bound(3))?;
+    let form = formula(alloc, b"p3")?;
     lines.push(Line::Result(form))
 }
 
@@ -75,7 +65,7 @@ fn parameters(alloc: Global, sorts: &[u32]) -> Mem<Vars> {
 
 fn push_ack(alloc: Global, lines: &mut Lines, sign: Sign, sorts: &[u32]) -> Mem<()> {
     let params = parameters(alloc, sorts)?;
-    let value = atom(alloc, Pred::Decl(0))?;
+    let value = formula(alloc, b"d0")?;
     let pred = Pred::Bound(0);
     lines.push(Line::Dls(DlsStep::Ack {
         sign,
@@ -89,14 +79,14 @@ fn push_case(alloc: Global, lines: &mut Lines) -> Mem<()> {
     let method = Method::Dls;
     let pred = Pred::Bound(0);
     lines.push(Line::Block { method, pred })?;
-    let form = atom(alloc, Pred::Bound(0))?;
+    let form = formula(alloc, b"p0")?;
     lines.push(Line::Nnf(form))?;
-    let form = atom(alloc, Pred::Bound(0))?;
+    let form = formula(alloc, b"p0")?;
     lines.push(Line::Dls(DlsStep::Case { num: 12, form }))
 }
 
 fn push_gives(alloc: Global, lines: &mut Lines) -> Mem<()> {
-    let form = atom(alloc, Pred::Decl(0))?;
+    let form = formula(alloc, b"d0")?;
     lines.push(Line::Dls(DlsStep::Gives(form)))?;
     lines.push(Line::Stopped(Stop::NotReached(3)))
 }
@@ -144,7 +134,7 @@ fn posed(sig: Signature, goal: Boxed<Form>) -> Problem {
 
 fn problem(alloc: Global) -> Mem<Problem> {
     let sig = names(alloc)?;
-    let goal = block(alloc)?;
+    let goal = formula(alloc, b"X0p0")?;
     Ok(posed(sig, goal))
 }
 
