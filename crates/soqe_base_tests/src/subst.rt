@@ -1,4 +1,6 @@
 //! Substitution and renaming in formulas written by hand.
+ghost use Rattle.std.specs.Prelude.{◌≡◌};
+
 use crate::notation::{formula, is_spelled};
 use soqe_form::Form;
 use soqe_subst::{rename, rename_pred, subst};
@@ -6,7 +8,9 @@ use soqe_term::{Term, Var};
 use sqlite_items::Boxed;
 use std::test::Fail;
 
-fn var(num: u64) -> Var {
+fn var(num: u64) -> Var
+    ensures { result.sort ≡ 0 }
+{
     Var { num, sort: 0 }
 }
 
