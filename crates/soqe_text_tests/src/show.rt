@@ -1,12 +1,12 @@
 //! Formulas written behind their parts, and their texts by hand. `p` and `q` are atoms of declared predicates, `r` and `s`
 //! of bound ones, the last without a name; `=` is an equation, `t` and `f` are true and false; `~`, `&`, `|`, `>` and `<`
 //! join what stands before them; `a` and `e` bind variables, `A` and `E` predicates.
-use soqe_show::{show_form, show_problem, show_term};
 use soqe_form::make::{
     conjunction, disjunction, equation, equivalence, exists, exists_table, for_all, for_all_tables,
     implication, negation,
 };
 use soqe_form::{Form, PVar, Pred};
+use soqe_show::{show_form, show_problem, show_term};
 use soqe_term::{Kind, Mem, Signature, Sorts, Sym, Term, Terms, Var};
 use soqe_text::Problem;
 use sqlite_items::Boxed;
