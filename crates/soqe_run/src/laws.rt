@@ -5,7 +5,7 @@ use soqe_text::one_spelled;
 
 /// Words and bytes have one answer: each status is answered exactly where its cause holds.
 pub fn answers()
-    ensures one { OneAnswer }
+    ensures { OneAnswer }
 {
     one_spelled();
 }
