@@ -4,8 +4,8 @@ use Rattle.std.specs.List.{list_any, All, Contains}
 use Rattle.std.proofs.lemmas.Bool.{ne_eqb, eq-eqb, or_from, both_ways, eqb-true}
 use Rattle.std.proofs.lemmas.List.Elements.{All-nil, All-cons, All-contains, Contains-push, Contains-append_left, Contains-append_right}
 use Rattle.soqe_term.specs.declared.term.Var.{Var}
-use Rattle.soqe_term.specs.Unused.{member}
-use Rattle.soqe_term.proofs.Choices.{bool_cases}
+use Rattle.soqe_number.specs.Unused.{member}
+use Rattle.soqe_number.proofs.Choices.{bool_cases}
 use Rattle.soqe_form.specs.declared.form.Pred.{Pred}
 use Rattle.soqe_form.specs.declared.form.Pred.TheVariants.{Bound}
 use Rattle.soqe_form.specs.declared.form.PVar.{PVar}

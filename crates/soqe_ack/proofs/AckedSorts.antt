@@ -3,8 +3,8 @@ use Rattle.std.proofs.Common.{◌≡◌, ℕ, Bool, true, false, cond, eqb, not,
 use Rattle.std.proofs.lemmas.Bool.{and_parts, and_from, not-true, not_from_false, both_ways}
 use Rattle.soqe_term.specs.declared.term.Var.{Var}
 use Rattle.soqe_term.specs.Sorting.{Sorting, over_var, over_bound}
-use Rattle.soqe_term.specs.World.{changed}
-use Rattle.soqe_term.proofs.Choices.{or_none_first, or_none_second}
+use Rattle.soqe_number.specs.Updates.{changed}
+use Rattle.soqe_number.proofs.Choices.{or_none_first, or_none_second}
 use Rattle.soqe_term.proofs.Worlds.{changed-off, changed-at}
 use Rattle.soqe_form.specs.declared.form.Pred.TheVariants.{Bound}
 use Rattle.soqe_form.specs.declared.form.PVar.{PVar}

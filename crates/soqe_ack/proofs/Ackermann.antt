@@ -11,7 +11,7 @@ use Rattle.soqe_term.specs.declared.term.Var.{Var}
 use Rattle.soqe_term.specs.World.{World, with_bound}
 use Rattle.soqe_term.specs.Sorting.{Sorting, over_bound}
 use Rattle.soqe_term.specs.Fits.{Fits, EqualIn}
-use Rattle.soqe_term.proofs.Choices.{not_twice}
+use Rattle.soqe_number.proofs.Choices.{not_twice}
 use Rattle.soqe_term.proofs.Values.{fits-bound}
 use Rattle.soqe_term.proofs.Worlds.{changed-at}
 use Rattle.soqe_form.specs.declared.form.Pred.TheVariants.{Bound}

@@ -2,11 +2,11 @@
 use Rattle.std.proofs.Common.{◌≡◌, ℕ, Bool, true, map, List, [], ◌∷◌, sym, ◌∙◌, ap, subst}
 use Rattle.soqe_term.specs.declared.term.Var.{Var}
 use Rattle.soqe_term.specs.World.{World, with_var, with_bound}
-use Rattle.soqe_term.specs.Finite.{product, entry}
+use Rattle.soqe_number.specs.Finite.{product, entry}
 use Rattle.soqe_term.specs.Sorting.{Sorting, over_var, over_bound}
 use Rattle.soqe_term.specs.Fits.{Fits}
-use Rattle.soqe_term.proofs.Choices.{same_test}
-use Rattle.soqe_term.proofs.Enumerations.{found, finds, found_list}
+use Rattle.soqe_number.proofs.Choices.{same_test}
+use Rattle.soqe_number.proofs.Enumerations.{found, finds, found_list}
 use Rattle.soqe_term.proofs.Values.{fits-var}
 use Rattle.soqe_form.specs.declared.form.Pred.TheVariants.{Bound}
 use Rattle.soqe_form.specs.declared.form.PVar.{PVar}

@@ -6,8 +6,8 @@ use Rattle.soqe_term.specs.declared.term.Term.{Term, Var as var}
 use Rattle.soqe_term.specs.declared.term.Terms.{Terms, Nil, Cons', end_of-Term as end-t, more_of-Term as one-t, end_of-Terms as ends-t, more_of-Terms as ones-t}
 use Rattle.soqe_term.specs.Occurs.{AgreeOn}
 use Rattle.soqe_term.specs.Sorting.{Sorting, over_var, with_sorts, is_sort, own_sort, sorted_term, sorted_terms}
-use Rattle.soqe_term.specs.World.{changed}
-use Rattle.soqe_term.proofs.Choices.{or_none_first, or_none_second}
+use Rattle.soqe_number.specs.Updates.{changed}
+use Rattle.soqe_number.proofs.Choices.{or_none_first, or_none_second}
 use Rattle.soqe_term.proofs.Sortings.{known, sorted_terms-agree}
 use Rattle.soqe_term.proofs.Worlds.{changed-off, eqb-self}
 use Rattle.soqe_form.specs.declared.form.Pred.{Pred}

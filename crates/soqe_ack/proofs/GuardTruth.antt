@@ -9,14 +9,15 @@ use Rattle.std.proofs.Common.{◌≡◌, ℕ, ◌<◌, Bool, true, false, cond, 
 use Rattle.std.proofs.lemmas.Bool.{eqb-true, eqb-false, and_parts, and_from, or_cases, or_left, or_right, not-true, both_ways, cases_Bool}
 use Rattle.soqe_term.specs.declared.term.Var.{Var}
 use Rattle.soqe_term.specs.declared.term.Terms.{Terms}
-use Rattle.soqe_term.specs.World.{World, changed, with_var}
+use Rattle.soqe_term.specs.World.{World, with_var}
+use Rattle.soqe_number.specs.Updates.{changed}
 use Rattle.soqe_term.specs.Value.{values}
 use Rattle.soqe_term.specs.Occurs.{occurs_any}
-use Rattle.soqe_term.specs.Ranges.{InRange}
+use Rattle.soqe_number.specs.Ranges.{InRange}
 use Rattle.soqe_term.specs.Sorting.{Sorting, over_var, with_sorts, sorted_terms}
 use Rattle.soqe_term.specs.Fits.{Fits}
-use Rattle.soqe_term.proofs.Choices.{or_none_first, or_none_second}
-use Rattle.soqe_term.proofs.Enumerations.{found, finds, every-at, every-from}
+use Rattle.soqe_number.proofs.Choices.{or_none_first, or_none_second}
+use Rattle.soqe_number.proofs.Enumerations.{found, finds, every-at, every-from}
 use Rattle.soqe_term.proofs.Values.{values-in, fits-var}
 use Rattle.soqe_term.proofs.Worlds.{changed-off, changed-at, changed-again, changed-same}
 use Rattle.soqe_form.specs.declared.form.Pred.{Pred}

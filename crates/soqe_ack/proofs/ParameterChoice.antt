@@ -4,12 +4,12 @@ use Rattle.std.proofs.Common.{◌≡◌, ℕ, ◌<◌, Bool, true, cond, eqb, no
 use Rattle.std.specs.List.{list_any}
 use Rattle.std.proofs.lemmas.List.Folds.{list_any-append, list_any_more}
 use Rattle.soqe_term.specs.declared.term.Var.{Var}
-use Rattle.soqe_term.specs.World.{changed}
+use Rattle.soqe_number.specs.Updates.{changed}
 use Rattle.soqe_form.specs.declared.form.Form.{Form}
 use Rattle.soqe_form.specs.FreeVars.{is_among}
-use Rattle.soqe_form.specs.Marks.{Adds, IsLeastWithout}
+use Rattle.soqe_number.specs.Marks.{Adds, IsLeastWithout}
 use Rattle.soqe_form.specs.Mentions.{mentions}
-use Rattle.soqe_form.proofs.Marked.{adds-two}
+use Rattle.soqe_number.proofs.Marked.{adds-two}
 use Rattle.soqe_norm.specs.Apart.{IsLeast}
 use Rattle.soqe_norm.proofs.Choosing.{or_swap, pushed, still}
 use Rattle.soqe_ack.specs.Acked.{AreParameters}

@@ -3,7 +3,7 @@ use Rattle.std.specs.Prelude.{ℕ, ◌↔◌, ◌⊎◌, ◌≡◌, Bool, true, 
 use Rattle.soqe_term.specs.declared.term.Var.{Var}
 use Rattle.soqe_term.specs.World.{World}
 use Rattle.soqe_term.specs.Occurs.{AgreeOn}
-use Rattle.soqe_term.specs.Ranges.{InRange}
+use Rattle.soqe_number.specs.Ranges.{InRange}
 use Rattle.soqe_term.specs.Sorting.{Sorting}
 use Rattle.soqe_term.specs.Fits.{Fits}
 use Rattle.soqe_form.specs.declared.form.Pred.{Pred}

@@ -18,7 +18,8 @@ use soqe_norm::case_list::Case;
 use soqe_norm::folding::{and_next, exists_in, made_or};
 use soqe_norm::nnf::nnf;
 use soqe_psub::{Replacement, mark_own, pred_subst_by};
-use soqe_term::{Mem, Nums, Vars};
+use soqe_number::{Mem, Nums};
+use soqe_term::Vars;
 use sqlite_items::Boxed;
 use std::alloc::Global;
 

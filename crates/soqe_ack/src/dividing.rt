@@ -11,7 +11,8 @@ use crate::steps::Sign;
 use soqe_form::{Form, Pred, copy_boxed};
 use soqe_norm::folding::or_next;
 use soqe_norm::signs::signs;
-use soqe_term::{Mem, Vars};
+use soqe_number::Mem;
+use soqe_term::Vars;
 use sqlite_items::Boxed;
 use std::alloc::Global;
 

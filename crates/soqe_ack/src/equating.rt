@@ -8,7 +8,8 @@ ghost use Rattle.soqe_ack.specs.Guards.{equations as equations_of, equations_aft
 
 use soqe_form::Form;
 use soqe_form::make::{conjunction, constant};
-use soqe_term::{Mem, Term, Terms, Var, copy_term};
+use soqe_number::Mem;
+use soqe_term::{Term, Terms, Var, copy_term};
 use sqlite_items::Boxed;
 use std::alloc::Global;
 

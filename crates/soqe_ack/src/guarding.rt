@@ -14,7 +14,8 @@ use crate::steps::Sign;
 use soqe_form::make::{conjunction, constant, disjunction, exists, for_all};
 use soqe_form::{Form, Pred, copy_boxed, has_free_pred, is_same_pred};
 use soqe_norm::nnf::nnf;
-use soqe_term::{Mem, Terms, Var, Vars};
+use soqe_number::Mem;
+use soqe_term::{Terms, Var, Vars};
 use sqlite_items::Boxed;
 use std::alloc::Global;
 

@@ -2,12 +2,14 @@
 
 ghost use Rattle.std.specs.Prelude.{IfOk, OnOk};
 ghost use Rattle.std.specs.List.{list_any};
-ghost use Rattle.soqe_form.specs.Marks.{marked, Adds};
+ghost use Rattle.soqe_number.specs.Marks.{marked, Adds};
 ghost use Rattle.soqe_form.specs.Mentions.{mentions};
 ghost use Rattle.soqe_ack.specs.Acked.{is_used, AreParameters};
 
-use soqe_form::{Form, Forms, Marks, mark_form, mark_numbers, mark_variables};
-use soqe_term::{Mem, Nums, Sorts, Var, Vars};
+use soqe_form::{Form, Forms, mark_form, mark_variables};
+use soqe_number::{Marks, mark_numbers};
+use soqe_number::{Mem, Nums, Sorts};
+use soqe_term::{Var, Vars};
 use sqlite_items::Boxed;
 use std::alloc::Global;
 

@@ -3,7 +3,8 @@
 ghost use Rattle.std.specs.Prelude.{◌≡◌, IfOk};
 
 use soqe_form::{Form, Pred, copy_boxed};
-use soqe_term::{Mem, Vars};
+use soqe_number::Mem;
+use soqe_term::Vars;
 use sqlite_items::Boxed;
 use std::alloc::Global;
 

@@ -10,7 +10,8 @@ use crate::applying::apply;
 use crate::steps::Sign;
 use soqe_form::{Form, PVar};
 use soqe_norm::case_list::Case;
-use soqe_term::{Mem, Nums, Vars};
+use soqe_number::{Mem, Nums};
+use soqe_term::Vars;
 use sqlite_items::Boxed;
 use std::alloc::Global;
 

@@ -8,7 +8,7 @@ use soqe_norm::nnf::nnf;
 use soqe_norm::prenex::prenex;
 use soqe_norm::signs::{first_signs, signs};
 use soqe_norm::valued::{value_for, valued};
-use soqe_term::{Mem, Nums, Sorts};
+use soqe_number::{Mem, Nums, Sorts};
 use std::alloc::Global;
 use std::test::Fail;
 

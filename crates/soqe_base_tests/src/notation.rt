@@ -17,7 +17,8 @@
 //! lacks, and it leaves out the sorts of variables in terms. The reader fails as if memory were short where a text is no
 //! formula, so that the test fails.
 use soqe_form::{Form, PVar, Pred, make};
-use soqe_term::{Mem, Sorts, Sym, Term, Terms, Var};
+use soqe_number::{Mem, Sorts};
+use soqe_term::{Sym, Term, Terms, Var};
 use sqlite_items::Boxed;
 use std::alloc::{AllocError, Global};
 

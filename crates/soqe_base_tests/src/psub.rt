@@ -2,7 +2,8 @@
 use crate::notation::{formula, is_spelled};
 use soqe_form::Pred;
 use soqe_psub::pred_subst;
-use soqe_term::{Mem, Var, Vars};
+use soqe_number::Mem;
+use soqe_term::{Var, Vars};
 use std::alloc::Global;
 use std::test::Fail;
 

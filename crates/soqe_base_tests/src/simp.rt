@@ -2,7 +2,7 @@
 use crate::notation::formula;
 use soqe_form::same;
 use soqe_simp::{RowTable, row_names, simplify, simplify_owned, step};
-use soqe_term::Mem;
+use soqe_number::Mem;
 use std::alloc::Global;
 use std::test::Fail;
 

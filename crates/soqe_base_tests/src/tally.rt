@@ -1,7 +1,9 @@
 //! Counts, tallies, numbers to keep out and uses of binders, by tables of cases.
 use soqe_form::{Form, make};
-use soqe_tally::{Recent, Tally, Unkept, Uses, gather, least_beside};
-use soqe_term::{Mem, Nums, Term, Var};
+use soqe_number::{Recent, Tally, Unkept, least_beside};
+use soqe_uses::{Uses, gather};
+use soqe_number::{Mem, Nums};
+use soqe_term::{Term, Var};
 use sqlite_items::Boxed;
 use std::alloc::Global;
 use std::test::Fail;

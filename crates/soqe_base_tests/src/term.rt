@@ -8,7 +8,7 @@ mod sorting;
 mod terms;
 mod words;
 
-use soqe_term::least_unused;
+use soqe_number::least_unused;
 use std::alloc::Global;
 
 /// Whether the least number that the numbers below a count lack is the count.

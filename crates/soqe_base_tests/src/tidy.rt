@@ -1,7 +1,8 @@
 //! Tidy forms of formulas written by hand.
 use crate::notation::{formula, is_spelled};
 use soqe_form::{Form, make};
-use soqe_term::{Mem, Nums, Term, Var};
+use soqe_number::{Mem, Nums};
+use soqe_term::{Term, Var};
 use soqe_tidy::{tidy, tidy_owned};
 use sqlite_items::Boxed;
 use std::alloc::Global;

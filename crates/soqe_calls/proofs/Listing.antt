@@ -2,7 +2,7 @@
 use Rattle.std.proofs.Common.{◌≡◌, ℕ, ◌+◌, ⊎_elim, Bool, true, false, ◌||◌, eqb, List, [], ◌∷◌, ◌++◌, refl, ◌∙◌, arith}
 use Rattle.std.proofs.lemmas.Bool.{cases_lt, both_ways, or_left, or_right, eq-eqb, ne_eqb}
 use Rattle.std.proofs.lemmas.List.Folds.{list_any-append}
-use Rattle.soqe_term.specs.Unused.{member, IsLeastUnused}
+use Rattle.soqe_number.specs.Unused.{member, IsLeastUnused}
 use Rattle.soqe_calls.specs.Listed.{AreBelow}
 
 none : (a b : Bool) → a ≡ false → b ≡ false → (a || b) ≡ false

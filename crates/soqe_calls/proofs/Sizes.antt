@@ -2,7 +2,7 @@
 use Rattle.std.proofs.Common.{◌≡◌, ℕ, zero, suc, ◌+◌, ◌*◌, ◌/◌, ◌%◌, List, refl, ◌∙◌, ap, arith}
 use Rattle.soqe_form.specs.declared.form.Form.{Form, True, False, Equal, Atom, Not', And', Or', Imp', Iff', All', Ex', All2', Ex2', end_of-Form as end, more_of-Form as one}
 use Rattle.soqe_form.specs.Boxes.{boxes}
-use Rattle.soqe_term.specs.World.{changed}
+use Rattle.soqe_number.specs.Updates.{changed}
 use Rattle.std.specs.Prelude.{length, slice_index}
 use Rattle.soqe_norm.specs.Apart.{binders, renumbered}
 use Rattle.soqe_calls.specs.Nodes.{nodes}

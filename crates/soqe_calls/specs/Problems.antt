@@ -1,9 +1,9 @@
 -- The problems whose goals are the measured formulas: the predicates of the formulas, and all their variables, are declared.
 use Rattle.std.specs.Prelude.{ℕ, zero, suc, ◌+◌, ◌/◌, List, [], ◌∷◌, ◌++◌, codes}
 use Rattle.std.specs.Fmt.{decimal}
-use Rattle.soqe_term.specs.Declarations.{Declaration}
-use Rattle.soqe_term.specs.declared.kinds.Kind.{Kind}
-use Rattle.soqe_term.specs.declared.kinds.Kind.TheVariants as kind
+use Rattle.soqe_signature.specs.Declarations.{Declaration}
+use Rattle.soqe_signature.specs.declared.kinds.Kind.{Kind}
+use Rattle.soqe_signature.specs.declared.kinds.Kind.TheVariants as kind
 use Rattle.soqe_form.specs.declared.form.Form.{Form}
 use Rattle.soqe_text.specs.declared.problem.Problem.{Problem}
 use Rattle.soqe_text.specs.declared.problem.Problem.TheVariants as problem

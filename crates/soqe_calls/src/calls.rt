@@ -20,7 +20,7 @@ use soqe_norm::cases::cases;
 use soqe_norm::nnf::nnf;
 use soqe_simp::simplify_owned;
 use soqe_subst::subst;
-use soqe_term::{Mem, Nums, least_unused};
+use soqe_number::{Mem, Nums, least_unused};
 use soqe_tidy::tidy_owned;
 use sqlite_items::Boxed;
 use std::alloc::Global;

@@ -5,7 +5,7 @@ ghost use Rattle.std.specs.Prelude.{◌≡◌, ◌≤◌, ◌+◌, ◌^◌, Matc
 ghost use Rattle.soqe_calls.specs.Nodes.{nodes as nodes_of};
 
 use soqe_form::Form;
-use soqe_term::Mem;
+use soqe_number::Mem;
 use std::alloc::AllocError;
 
 /// How many nodes the formula has. Want of memory stands for 2^64 and more, which no memory holds. It takes no memory.

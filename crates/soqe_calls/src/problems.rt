@@ -2,13 +2,14 @@
 #![tactic(auto)]
 
 ghost use Rattle.std.specs.Prelude.{◌≡◌, ◌∷◌, [], ◌++◌, string_bytes, IfOk, OnOk};
-ghost use Rattle.soqe_term.specs.declared.kinds.Kind.TheVariants as kind;
+ghost use Rattle.soqe_signature.specs.declared.kinds.Kind.TheVariants as kind;
 ghost use Rattle.soqe_calls.specs.Problems.{declared, predicates as predicates_of, variable_name as variable_name_of, names as names_of, variables as variables_of, problem_of};
 
 use crate::shapes::shaped;
 use crate::words::Shape;
 use soqe_show::write_number;
-use soqe_term::{Kind, Mem, Signature, Sorts};
+use soqe_signature::{Kind, Signature};
+use soqe_number::{Mem, Sorts};
 use soqe_text::Problem;
 use std::alloc::{AllocError, Global};
 

@@ -13,7 +13,8 @@ ghost use Rattle.soqe_calls.specs.Shapes.{variable, with_first as with_first_of,
 use crate::words::Shape;
 use soqe_form::make::{conjunction, constant, equation, exists, for_all, implication, negation};
 use soqe_form::{Form, Pred, copy_boxed};
-use soqe_term::{Mem, Nums, Sym, Term, Terms, Var};
+use soqe_number::{Mem, Nums};
+use soqe_term::{Sym, Term, Terms, Var};
 use sqlite_items::Boxed;
 use std::alloc::Global;
 

@@ -11,7 +11,7 @@ use crate::nodes::count_nodes;
 use crate::problems::problem;
 use crate::words::{Shape, TextCall};
 use soqe_show::show_problem;
-use soqe_term::Mem;
+use soqe_number::Mem;
 use soqe_text::{Command, Problem, TextFault, one_spelled, read_problem};
 use std::alloc::{AllocError, Global};
 

@@ -8,7 +8,7 @@
 use Rattle.std.proofs.Common.{◌≡◌, ℕ, Bool, true, false, cond, not, map, List, [], ◌∷◌, ◌++◌, Option, Some, None, refl, sym, ◌∙◌, ap, subst, append_assoc, append-nil}
 use Rattle.soqe_term.specs.declared.term.Var.{Var}
 use Rattle.soqe_term.specs.Sorting.{Sorting, over_bound}
-use Rattle.soqe_term.proofs.Choices.{not_twice}
+use Rattle.soqe_number.proofs.Choices.{not_twice}
 use Rattle.soqe_form.specs.declared.form.PVar.{PVar}
 use Rattle.soqe_form.specs.declared.form.Form.{Form, All2, Ex2}
 use Rattle.soqe_form.specs.declared.form.Pred.TheVariants.{Bound}

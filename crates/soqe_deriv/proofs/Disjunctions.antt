@@ -2,9 +2,9 @@
 use Rattle.std.proofs.Common.{◌≡◌, ℕ, zero, suc, Bool, true, false, ◌||◌, ◌&&◌, map, List, [], ◌∷◌, ◌++◌, refl, sym, ◌∙◌, ap}
 use Rattle.std.proofs.lemmas.Bool.{and_parts, and_from}
 use Rattle.soqe_term.specs.World.{World, with_bound}
-use Rattle.soqe_term.specs.Finite.{some_list, product, entry}
+use Rattle.soqe_number.specs.Finite.{some_list, product, entry}
 use Rattle.soqe_term.specs.Sorting.{Sorting, over_bound}
-use Rattle.soqe_term.proofs.Enumerations.{some_list-same}
+use Rattle.soqe_number.proofs.Enumerations.{some_list-same}
 use Rattle.soqe_term.proofs.Values.{fits-bound}
 use Rattle.soqe_form.specs.declared.form.PVar.{PVar}
 use Rattle.soqe_form.specs.declared.form.Form.{Form, Ex2}

@@ -11,9 +11,9 @@
 use Rattle.std.proofs.Common.{◌≡◌, Bool, true, false, List, [], ◌∷◌, ◌++◌, Option, Some, None, refl, sym, ◌∙◌, ap, subst}
 use Rattle.std.specs.Option.{is_some}
 use Rattle.soqe_term.specs.Sorting.{Sorting}
-use Rattle.soqe_term.specs.Declarations.{sorting_of}
-use Rattle.soqe_term.specs.Structures.{world_of}
-use Rattle.soqe_term.proofs.Structures.{fits-world}
+use Rattle.soqe_signature.specs.Declarations.{sorting_of}
+use Rattle.soqe_signature.specs.Structures.{world_of}
+use Rattle.soqe_signature.proofs.Structures.{fits-world}
 use Rattle.soqe_form.specs.declared.form.Form.{Form}
 use Rattle.soqe_form.specs.declared.form.Block.{Block}
 use Rattle.soqe_form.specs.Sorted.{sorted}

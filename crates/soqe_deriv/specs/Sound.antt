@@ -1,7 +1,7 @@
 -- What an accepted document promises.
 use Rattle.std.specs.Prelude.{◌≡◌, is_some}
-use Rattle.soqe_term.specs.Declarations.{free_sort_of}
-use Rattle.soqe_term.specs.Structures.{Structure, Setting, IsStructureFor, IsSettingFor, world_of}
+use Rattle.soqe_signature.specs.Declarations.{free_sort_of}
+use Rattle.soqe_signature.specs.Structures.{Structure, Setting, IsStructureFor, IsSettingFor, world_of}
 use Rattle.soqe_form.specs.declared.form.Form.{Form}
 use Rattle.soqe_form.specs.Truth.{truth}
 use Rattle.soqe_form.specs.Pure.{IsPure}

@@ -2,7 +2,7 @@
 use Rattle.std.specs.Prelude.{List, [], ◌∷◌, ◌++◌, codes, map}
 use Rattle.std.specs.Fmt.{decimal}
 use Rattle.soqe_term.specs.declared.term.Var.{Var}
-use Rattle.soqe_term.specs.Declarations.{Declaration}
+use Rattle.soqe_signature.specs.Declarations.{Declaration}
 use Rattle.soqe_ack.specs.declared.steps.Sign.{Sign}
 use Rattle.soqe_ack.specs.declared.steps.Sign.TheVariants as sign
 use Rattle.soqe_ack.specs.declared.steps.DlsStep.{DlsStep}

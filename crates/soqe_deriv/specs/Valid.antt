@@ -1,6 +1,6 @@
 -- When a line of a document is valid, and what stands then.
 use Rattle.std.specs.Prelude.{◌≡◌, ℕ, Bool, true, false, List, [], ◌∷◌, ◌++◌, map, Option, Some, None}
-use Rattle.soqe_term.specs.Declarations.{free_vars_of}
+use Rattle.soqe_signature.specs.Declarations.{free_vars_of}
 use Rattle.soqe_form.specs.declared.form.Form.{Form}
 use Rattle.soqe_form.specs.declared.form.Pred.TheVariants.{Bound}
 use Rattle.soqe_form.specs.declared.form.Block.{Block}

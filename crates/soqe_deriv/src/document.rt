@@ -3,7 +3,7 @@ ghost use Rattle.std.specs.Prelude.{◌≡◌, ◌∷◌, [], ◌++◌, IfOk, On
 
 use soqe_ack::DlsStep;
 use soqe_form::{Form, Pred, copy_boxed};
-use soqe_term::Mem;
+use soqe_number::Mem;
 use soqe_text::Problem;
 use sqlite_items::Boxed;
 use std::alloc::Global;

@@ -9,7 +9,9 @@ ghost use Rattle.soqe_deriv.specs.Text.{parameter_text, sign_text, step_text, wi
 use soqe_ack::{DlsStep, Sign};
 use soqe_form::{Form, Pred};
 use soqe_show::{write_binder_sort, write_form, write_number, write_pred, write_var};
-use soqe_term::{Mem, Signature, Var};
+use soqe_number::Mem;
+use soqe_signature::Signature;
+use soqe_term::Var;
 
 /// Writes a step of a block by cases.
 pub fn write_step(out: &mut String, sig: &Signature, step: &DlsStep) -> Mem<()>

@@ -2,7 +2,7 @@
 use Rattle.std.proofs.Common.{◌≡◌, ℕ, suc, List, [], ◌∷◌, length, map, refl, ap}
 use Rattle.soqe_term.specs.declared.term.Var.{Var}
 use Rattle.soqe_term.specs.Renumber.{numbered}
-use Rattle.soqe_term.specs.World.{changed}
+use Rattle.soqe_number.specs.Updates.{changed}
 use Rattle.soqe_form.specs.declared.form.Form.{Form, And, Ex}
 use Rattle.soqe_form.specs.Boxes.{boxes}
 use Rattle.soqe_tidy.specs.Tidy.{tidied, tidy_number}

@@ -5,13 +5,13 @@ use Rattle.std.proofs.lemmas.List.{take_more, map-append}
 use Rattle.soqe_term.specs.declared.term.Var.{Var}
 use Rattle.soqe_term.specs.declared.term.Term.{Var as var}
 use Rattle.soqe_term.specs.Bindings.{bound_term}
-use Rattle.soqe_term.specs.Unused.{member}
-use Rattle.soqe_term.proofs.Choices.{bool_cases}
+use Rattle.soqe_number.specs.Unused.{member}
+use Rattle.soqe_number.proofs.Choices.{bool_cases}
 use Rattle.soqe_term.proofs.Worlds.{eqb-self}
 use Rattle.soqe_form.specs.declared.form.Form.{Form}
 use Rattle.soqe_form.specs.Free.{free}
 use Rattle.soqe_form.specs.FreeVars.{is_among}
-use Rattle.soqe_form.specs.Marks.{marked, Adds}
+use Rattle.soqe_number.specs.Marks.{marked, Adds}
 use Rattle.soqe_psub.specs.Replaces.{is_own}
 use Rattle.soqe_ack.specs.Acked.{AreParameters}
 use Rattle.soqe_ack.specs.GuardLaws.{AreDistinct}

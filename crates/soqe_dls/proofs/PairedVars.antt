@@ -4,11 +4,11 @@ use Rattle.std.proofs.Common.{◌≡◌, ℕ, ◌≤◌, true, false, cond, eqb,
 use Rattle.std.proofs.lemmas.Bool.{eqb-true, eq-eqb, or_from, and_from}
 use Rattle.soqe_term.specs.declared.term.Var.{Var}
 use Rattle.soqe_term.specs.declared.term.Term.{Var as var}
-use Rattle.soqe_term.specs.World.{changed}
+use Rattle.soqe_number.specs.Updates.{changed}
 use Rattle.soqe_term.specs.Sorting.{Sorting, over_var, is_sort}
-use Rattle.soqe_term.specs.SkolemSigs.{over_vars}
+use Rattle.soqe_term.specs.Sorting.{over_vars}
 use Rattle.soqe_term.specs.Bindings.{bound_term, term_or, term_of}
-use Rattle.soqe_term.proofs.Choices.{bool_cases, or_none_first, or_none_second}
+use Rattle.soqe_number.proofs.Choices.{bool_cases, or_none_first, or_none_second}
 use Rattle.soqe_term.proofs.Worlds.{changed-commutes, eqb-self}
 use Rattle.soqe_form.specs.declared.form.Form.{Form}
 use Rattle.soqe_form.specs.Boxes.{boxes}

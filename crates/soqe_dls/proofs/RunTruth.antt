@@ -7,7 +7,7 @@ use Rattle.std.specs.List.{AllByRecursion}
 use Rattle.std.proofs.lemmas.Bool.{and_from}
 use Rattle.soqe_term.specs.declared.term.Var.{Var}
 use Rattle.soqe_term.specs.Fits.{Fits}
-use Rattle.soqe_term.specs.Finite.{some_list, product, entry}
+use Rattle.soqe_number.specs.Finite.{some_list, product, entry}
 use Rattle.soqe_term.specs.Sorting.{Sorting, over_bound}
 use Rattle.soqe_term.specs.World.{World, with_bound}
 use Rattle.soqe_term.proofs.Values.{fits-bound}

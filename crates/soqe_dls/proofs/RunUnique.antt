@@ -2,7 +2,7 @@
 use Rattle.std.proofs.Common.{◌≡◌, ℕ, suc, Bool, true, false, eqb, not, ◌||◌, List, [], ◌∷◌, refl, sym, ◌∙◌, ap, subst}
 use Rattle.std.specs.Bool.{MatchBool}
 use Rattle.soqe_term.specs.declared.term.Var.{Var}
-use Rattle.soqe_term.specs.Unused.{member}
+use Rattle.soqe_number.specs.Unused.{member}
 use Rattle.soqe_form.specs.declared.form.Pred.{Pred}
 use Rattle.soqe_form.specs.declared.form.Pred.TheVariants.{Bound}
 use Rattle.soqe_form.specs.declared.form.PVar.{PVar}

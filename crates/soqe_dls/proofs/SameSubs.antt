@@ -10,12 +10,12 @@ use Rattle.std.proofs.lemmas.Bool.{eqb-true, ne_eqb, both_ways, and_from}
 use Rattle.soqe_term.specs.declared.bindings.Bound.{Bound as Pair}
 use Rattle.soqe_term.specs.declared.term.Var.{Var}
 use Rattle.soqe_term.specs.declared.term.Term.{Term, Var as var, App}
-use Rattle.soqe_term.specs.World.{changed}
+use Rattle.soqe_number.specs.Updates.{changed}
 use Rattle.soqe_term.specs.Occurs.{occurs}
 use Rattle.soqe_term.specs.Sorting.{Sorting, over_var, over_bound, is_sort, own_sort, sorted_term}
-use Rattle.soqe_term.specs.SkolemSigs.{over_vars}
+use Rattle.soqe_term.specs.Sorting.{over_vars}
 use Rattle.soqe_term.specs.Bindings.{bound_term, term_or, term_of, bound_in, all_bound_in}
-use Rattle.soqe_term.proofs.Choices.{bool_cases, and_first, and_second}
+use Rattle.soqe_number.proofs.Choices.{bool_cases, and_first, and_second}
 use Rattle.soqe_term.proofs.Worlds.{changed-at, agree_changed, eqb-self}
 use Rattle.soqe_form.specs.declared.form.Form.{Form, True, False, Equal, Atom, Not', And', Or', Imp', Iff', All', Ex', All2', Ex2', end_of-Form as end, more_of-Form as one}
 use Rattle.soqe_form.specs.Boxes.{boxes}

@@ -5,8 +5,8 @@ use Rattle.std.proofs.Common.{◌≡◌, ℕ, Bool, true, false, eqb, not, ◌||
 use Rattle.std.proofs.lemmas.Bool.{both_ways, and_from}
 use Rattle.soqe_term.specs.declared.term.Var.{Var}
 use Rattle.soqe_term.specs.Sorting.{Sorting}
-use Rattle.soqe_term.specs.Unused.{member}
-use Rattle.soqe_term.proofs.Choices.{bool_cases, or_none_first, or_none_second}
+use Rattle.soqe_number.specs.Unused.{member}
+use Rattle.soqe_number.proofs.Choices.{bool_cases, or_none_first, or_none_second}
 use Rattle.soqe_term.proofs.Worlds.{eqb-self}
 use Rattle.soqe_form.specs.declared.form.Form.{Form}
 use Rattle.soqe_form.specs.Free.{free}

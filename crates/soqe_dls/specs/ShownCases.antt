@@ -3,7 +3,7 @@ use Rattle.std.specs.Prelude.{ℕ, ◌≡◌, not, ◌||◌, ◌&&◌, List, [],
 use Rattle.soqe_term.specs.declared.bindings.Bound.{Bound as Bind}
 use Rattle.soqe_term.specs.declared.term.Var.{Var}
 use Rattle.soqe_term.specs.declared.term.Term.{Var as var}
-use Rattle.soqe_term.specs.Unused.{member}
+use Rattle.soqe_number.specs.Unused.{member}
 use Rattle.soqe_form.specs.declared.form.Form.{Form}
 use Rattle.soqe_form.specs.Free.{free}
 use Rattle.soqe_form.specs.FreeVars.{is_among}

@@ -14,7 +14,7 @@ use soqe_form::{Form, PVar, Pred, copy_boxed};
 use soqe_norm::case_list::{Case, CaseList};
 use soqe_norm::cases::cases;
 use soqe_norm::folding::{case_form, made_or, or_next};
-use soqe_term::{Mem, Nums};
+use soqe_number::{Mem, Nums};
 use soqe_tidy::tidy_owned;
 use sqlite_items::Boxed;
 use std::alloc::Global;

@@ -1,18 +1,20 @@
 //! A predicate's value as it is shown: with small numbers for its parameters.
 
 ghost use Rattle.std.specs.Prelude.{◌≡◌, ◌||◌, ◌&&◌, not, map, length, IfOk};
-ghost use Rattle.soqe_term.specs.Unused.{member};
+ghost use Rattle.soqe_number.specs.Unused.{member};
 ghost use Rattle.soqe_form.specs.Free.{free};
 ghost use Rattle.soqe_form.specs.FreeVars.{is_among};
-ghost use Rattle.soqe_form.specs.Marks.{marked};
+ghost use Rattle.soqe_number.specs.Marks.{marked};
 ghost use Rattle.soqe_ack.specs.Acked.{AreParameters};
 ghost use Rattle.soqe_ack.specs.GuardLaws.{AreDistinct};
 ghost use Rattle.soqe_dls.specs.ShownCases.{IsShown, by_vars};
 
-use soqe_form::{Form, Marks, mark_numbers};
+use soqe_form::Form;
+use soqe_number::{Marks, mark_numbers};
 use soqe_psub::mark_own;
 use soqe_subst::subst_all;
-use soqe_term::{Binding, Mem, Nums, Term, Var, Vars};
+use soqe_term::{Binding, Term, Var, Vars};
+use soqe_number::{Mem, Nums};
 use soqe_tidy::tidy_owned;
 use sqlite_items::Boxed;
 use std::alloc::Global;

@@ -2,7 +2,7 @@
 ghost use Rattle.std.specs.Prelude.{◌≡◌, ◌∷◌, [], ◌++◌, IfOk, OnOk, OnErr};
 
 use soqe_ack::DlsStep;
-use soqe_term::Mem;
+use soqe_number::Mem;
 use std::alloc::Global;
 use std::marker::Model;
 

@@ -7,7 +7,8 @@ ghost use Rattle.soqe_norm.specs.Folds.{all_of, exists_in};
 ghost use Rattle.soqe_dls.specs.Parts.{HasConjuncts, HasInFront, is_conjunction, is_existential};
 
 use soqe_form::{Form, Forms};
-use soqe_term::{Mem, Var, Vars};
+use soqe_number::Mem;
+use soqe_term::{Var, Vars};
 use sqlite_items::Boxed;
 use std::alloc::Global;
 

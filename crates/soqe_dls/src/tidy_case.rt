@@ -9,7 +9,7 @@ use crate::taking::{take_conjuncts, take_vars};
 use soqe_form::Form;
 use soqe_norm::case_list::Case;
 use soqe_norm::folding::case_form;
-use soqe_term::{Mem, Nums};
+use soqe_number::{Mem, Nums};
 use soqe_tidy::tidy_owned;
 use sqlite_items::Boxed;
 use std::alloc::Global;

@@ -3,7 +3,8 @@ use soqe_ack::{GuardEnd, Sign, apply, first_try, guard};
 use soqe_base_tests::notation::{formula, is_spelled};
 use soqe_form::{Forms, PVar, Pred};
 use soqe_norm::case_list::Case;
-use soqe_term::{Mem, Nums, Sorts, Var, Vars};
+use soqe_number::{Mem, Nums, Sorts};
+use soqe_term::{Var, Vars};
 use std::alloc::Global;
 use std::test::Fail;
 

@@ -3,7 +3,8 @@ use soqe_ack::{DlsStep, Sign};
 use soqe_base_tests::notation::{formula, write};
 use soqe_dls::{DlsEnd, dls};
 use soqe_form::PVar;
-use soqe_term::{Mem, Nums, Sorts, Vars};
+use soqe_number::{Mem, Nums, Sorts};
+use soqe_term::Vars;
 use std::alloc::Global;
 use std::test::Fail;
 

@@ -14,7 +14,9 @@ use soqe_form::make::{
     conjunction, constant, disjunction, equivalence, exists_table, for_all_tables, negation,
 };
 use soqe_form::{Form, PVar, Pred};
-use soqe_term::{Mem, Signature, Sorts, Terms};
+use soqe_number::{Mem, Sorts};
+use soqe_signature::Signature;
+use soqe_term::Terms;
 use soqe_text::Problem;
 use sqlite_items::Boxed;
 use std::alloc::Global;

@@ -1,7 +1,7 @@
 -- What stands after a block has fewer quantifiers of predicates, so a derivation ends: what takes the block's place has none, and
 -- neither tidy numbers nor the simplifier bring one in.
 use Rattle.std.proofs.Common.{◌≡◌, ℕ, ◌<◌, ◌≤◌, Bool, true, false, not, List, Some, ◌∙◌, arith}
-use Rattle.soqe_term.proofs.Choices.{by_cases}
+use Rattle.soqe_number.proofs.Choices.{by_cases}
 use Rattle.soqe_form.specs.declared.form.Form.{Form}
 use Rattle.soqe_form.specs.declared.form.Block.{Block}
 use Rattle.soqe_form.specs.Places.{first_block, put_at, has_blocks, count_blocks}

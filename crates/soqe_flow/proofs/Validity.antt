@@ -5,7 +5,7 @@
 -- valid documents gives the rest.
 use Rattle.std.proofs.Common.{◌≡◌, ℕ, true, not, List, [], ◌∷◌, ◌++◌, map, Some, None, refl, sym, ◌∙◌, ap, subst, append_assoc}
 use Rattle.soqe_term.specs.Sorting.{Sorting, over_bound}
-use Rattle.soqe_term.specs.Declarations.{sorting_of}
+use Rattle.soqe_signature.specs.Declarations.{sorting_of}
 use Rattle.soqe_form.specs.declared.form.Form.{Form}
 use Rattle.soqe_form.specs.declared.form.Pred.TheVariants.{Bound}
 use Rattle.soqe_form.specs.declared.form.Block.{Block}

@@ -13,7 +13,7 @@ use crate::sign_blocks::write_sign_block;
 use crate::simplifying::simplified;
 use soqe_deriv::{Line, Lines, Stop};
 use soqe_form::{Form, copy_boxed, find_block, put_beside, put_in};
-use soqe_term::{Mem, Nums};
+use soqe_number::{Mem, Nums};
 use sqlite_items::Boxed;
 use std::alloc::Global;
 

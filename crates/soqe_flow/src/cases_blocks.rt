@@ -15,7 +15,7 @@ use soqe_deriv::{Line, Lines, Method, Stop};
 use soqe_dls::{DlsEnd, DlsSteps, dls};
 use soqe_form::{BlockRef, Form};
 use soqe_norm::nnf::nnf;
-use soqe_term::{Mem, Nums};
+use soqe_number::{Mem, Nums};
 use soqe_tidy::tidy_owned;
 use sqlite_items::Boxed;
 use std::alloc::Global;

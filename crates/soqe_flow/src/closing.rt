@@ -6,7 +6,7 @@ ghost use Rattle.soqe_form.specs.declared.form.Pred.TheVariants.{Bound};
 
 use soqe_deriv::{Line, Lines, Method};
 use soqe_form::{BlockRef, Form, Pred, copy_boxed};
-use soqe_term::Mem;
+use soqe_number::Mem;
 use sqlite_items::Boxed;
 use std::alloc::Global;
 

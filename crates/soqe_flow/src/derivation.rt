@@ -9,7 +9,7 @@ use crate::blocks::{Run, run_blocks};
 use crate::simplifying::kept;
 use soqe_deriv::{Document, Stop};
 use soqe_form::Form;
-use soqe_term::{Mem, Nums};
+use soqe_number::{Mem, Nums};
 use soqe_text::Problem;
 use std::alloc::{AllocError, Global};
 

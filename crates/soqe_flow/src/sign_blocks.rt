@@ -16,7 +16,7 @@ use soqe_deriv::{Line, Lines, Method, Stop};
 use soqe_form::{BlockRef, Form, Pred, copy_boxed};
 use soqe_norm::signs::first_signs;
 use soqe_norm::valued::{value_for, valued};
-use soqe_term::{Mem, Nums};
+use soqe_number::{Mem, Nums};
 use soqe_tidy::tidy_owned;
 use sqlite_items::Boxed;
 use std::alloc::{AllocError, Global};

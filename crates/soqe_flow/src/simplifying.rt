@@ -4,7 +4,8 @@ ghost use Rattle.soqe_deriv.specs.Valid.{kept as kept_of, simplified as simplifi
 
 use soqe_form::Form;
 use soqe_simp::simplify_owned;
-use soqe_term::{Mem, Nums, Var};
+use soqe_number::{Mem, Nums};
+use soqe_term::Var;
 use soqe_text::Problem;
 use soqe_tidy::tidy_owned;
 use sqlite_items::Boxed;

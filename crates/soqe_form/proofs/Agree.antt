@@ -1,9 +1,10 @@
 -- Truth depends on the free names alone.
 use Rattle.std.proofs.Common.{◌≡◌, ℕ, Bool, false, eqb, not, ◌||◌, ◌&&◌, map, List, refl, ◌∙◌, ap}
-use Rattle.soqe_term.specs.World.{World, changed, with_var, with_bound}
+use Rattle.soqe_term.specs.World.{World, with_var, with_bound}
+use Rattle.soqe_number.specs.Updates.{changed}
 use Rattle.soqe_term.specs.Value.{values}
 use Rattle.soqe_term.specs.Occurs.{occurs, AgreeOn}
-use Rattle.soqe_term.specs.Finite.{every, some, every_list, some_list, product, entry}
+use Rattle.soqe_number.specs.Finite.{every, some, every_list, some_list, product, entry}
 use Rattle.soqe_term.proofs.Worlds.{reading, value-agree, values-agree, agree_changed, agree_under, agree-left, agree-right, eqb-self}
 use Rattle.soqe_form.specs.declared.form.Pred.{Pred}
 use Rattle.soqe_form.specs.declared.form.Pred.TheVariants.{Decl, Bound}

@@ -1,7 +1,7 @@
 -- How many quantifiers of predicates stand in a formula: none exactly where it has none, and one fewer where the first block is
 -- replaced by a formula without any.
 use Rattle.std.proofs.Common.{◌≡◌, ℕ, suc, ◌+◌, ◌<◌, ◌≤◌, Bool, true, false, cond, eqb, ◌||◌, List, [], ◌∷◌, Option, Some, None, refl, ap, arith}
-use Rattle.soqe_term.proofs.Choices.{bool_cases, same_test}
+use Rattle.soqe_number.proofs.Choices.{bool_cases, same_test}
 use Rattle.soqe_form.specs.declared.form.Form.{Form, True, False, Equal, Atom, Not', And, And', Or, Or', Imp, Imp', Iff, Iff', All', Ex', All2, All2', Ex2, Ex2', end_of-Form as end, more_of-Form as one}
 use Rattle.soqe_form.specs.declared.form.Block.{Block}
 use Rattle.soqe_form.specs.Boxes.{boxes}

@@ -6,8 +6,8 @@ use Rattle.soqe_term.specs.declared.term.Term.{Term, Var as var, App}
 use Rattle.soqe_term.specs.declared.term.Terms.{Terms, Nil, Cons', end_of-Term as end-t, more_of-Term as one-t, end_of-Terms as ends-t, more_of-Terms as ones-t}
 use Rattle.soqe_term.specs.World.{World, with_var, with_bound}
 use Rattle.soqe_term.specs.Value.{value, values}
-use Rattle.soqe_term.specs.Finite.{every, some, every_list, some_list, product, entry}
-use Rattle.soqe_term.proofs.Choices.{bool_cases, or_none_first, or_none_second}
+use Rattle.soqe_number.specs.Finite.{every, some, every_list, some_list, product, entry}
+use Rattle.soqe_number.proofs.Choices.{bool_cases, or_none_first, or_none_second}
 use Rattle.soqe_term.proofs.Worlds.{changed-at, changed-off, changed-commutes, changed-again, eqb-self}
 use Rattle.soqe_form.specs.declared.form.Pred.{Pred}
 use Rattle.soqe_form.specs.declared.form.Pred.TheVariants.{Decl, Bound}

@@ -8,9 +8,7 @@ pub mod BlockCounts
 pub mod Found
 pub mod Pures
 pub mod FreeVariables
-pub mod Marked
 pub mod Numbers
-pub mod Counted
 pub mod SameOthers
 pub mod SameCases
 pub mod Related

@@ -2,11 +2,11 @@
 use Rattle.std.proofs.Common.{◌≡◌, ℕ, true, eqb, not, ◌||◌, ◌&&◌, map, List, Some, refl, ◌∙◌, ap}
 use Rattle.soqe_term.specs.World.{World, with_var, with_bound}
 use Rattle.soqe_term.specs.Value.{values}
-use Rattle.soqe_term.specs.Finite.{every, some, every_list, some_list, product, entry}
+use Rattle.soqe_number.specs.Finite.{every, some, every_list, some_list, product, entry}
 use Rattle.soqe_term.specs.Sorting.{Sorting, over_var, over_bound, own_sort, sorted_term, sorted_terms}
 use Rattle.soqe_term.specs.Fits.{Fits, EqualIn, Matches}
-use Rattle.soqe_term.proofs.Choices.{and_first, and_second}
-use Rattle.soqe_term.proofs.Enumerations.{every-same, some-same}
+use Rattle.soqe_number.proofs.Choices.{and_first, and_second}
+use Rattle.soqe_number.proofs.Enumerations.{every-same, some-same}
 use Rattle.soqe_term.proofs.Values.{sorts-of, values-in, value-match, values-match, fits-var, fits-bound, matches-var, matches-bound}
 use Rattle.soqe_form.specs.declared.form.Pred.{Pred}
 use Rattle.soqe_form.specs.declared.form.Pred.TheVariants.{Decl, Bound}

@@ -2,9 +2,9 @@
 use Rattle.std.proofs.Common.{◌≡◌, ℕ, zero, suc, ◌+◌, ◌<◌, ◌≤◌, Bool, true, false, eqb, not, ⊎_elim, List, sym, ◌∙◌, ap, arith}
 use Rattle.std.proofs.lemmas.Bool.{cases_lt, both_ways}
 use Rattle.soqe_term.specs.Occurs.{first_from}
-use Rattle.soqe_term.proofs.Choices.{by_cases}
-use Rattle.soqe_term.proofs.Renumbered.{eqb_sym}
-use Rattle.soqe_form.specs.Marks.{marked, IsLeastWithout}
+use Rattle.soqe_number.proofs.Choices.{by_cases}
+use Rattle.soqe_number.proofs.Equalities.{eqb_sym}
+use Rattle.soqe_number.specs.Marks.{marked, IsLeastWithout}
 
 -- an equality of numbers decided, read from the other side
 pub eqb-swap : {b : Bool} (m n : ℕ) → eqb m n ≡ b → eqb n m ≡ b

@@ -3,10 +3,10 @@
 use Rattle.std.proofs.Common.{◌≡◌, ℕ, Bool, true, false, cond, eqb, not, ◌||◌, ◌&&◌, map, List, [], ◌∷◌, Option, Some, None, sym, ◌∙◌, ap}
 use Rattle.std.proofs.lemmas.Bool.{and_from}
 use Rattle.soqe_term.specs.World.{with_var, with_bound}
-use Rattle.soqe_term.specs.Finite.{every_list, some_list, product, entry}
+use Rattle.soqe_number.specs.Finite.{every_list, some_list, product, entry}
 use Rattle.soqe_term.specs.Sorting.{Sorting, over_var, over_bound}
-use Rattle.soqe_term.proofs.Choices.{and_first, and_second}
-use Rattle.soqe_term.proofs.Enumerations.{every-same, some-same}
+use Rattle.soqe_number.proofs.Choices.{and_first, and_second}
+use Rattle.soqe_number.proofs.Enumerations.{every-same, some-same}
 use Rattle.soqe_term.proofs.Values.{fits-var, fits-bound}
 use Rattle.soqe_form.specs.declared.form.Form.{Form, True, False, Equal, Atom, Not', And, And', Or, Or', Imp, Imp', Iff, Iff', All', Ex', All2', Ex2', end_of-Form as end, more_of-Form as one}
 use Rattle.soqe_form.specs.Boxes.{boxes}

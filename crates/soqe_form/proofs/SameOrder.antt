@@ -6,7 +6,7 @@ use Rattle.soqe_term.specs.declared.term.Sym.{Sym}
 use Rattle.soqe_term.specs.declared.term.Term.{Term, Var as var, App}
 use Rattle.soqe_term.specs.declared.term.Terms.{Terms, Nil, Cons', end_of-Term as end-t, more_of-Term as one-t, end_of-Terms as ends-t, more_of-Terms as ones-t}
 use Rattle.soqe_term.specs.Equal.{equal_symbols}
-use Rattle.soqe_term.proofs.Choices.{and_first, and_second, same_test}
+use Rattle.soqe_number.proofs.Choices.{and_first, and_second, same_test}
 use Rattle.soqe_term.proofs.EqualTerms.{equal_symbols-same, equal_symbols-refl}
 use Rattle.soqe_term.proofs.Worlds.{eqb-self}
 use Rattle.soqe_form.specs.declared.form.Pred.{Pred}

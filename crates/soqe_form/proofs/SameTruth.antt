@@ -4,11 +4,12 @@ use Rattle.std.proofs.Common.{◌≡◌, ℕ, Bool, true, eqb, not, ◌&&◌, �
 use Rattle.std.proofs.lemmas.Bool.{eqb-true}
 use Rattle.soqe_term.specs.declared.term.Term.{Term, Var as var, App}
 use Rattle.soqe_term.specs.declared.term.Terms.{Terms, Nil, Cons', end_of-Term as end-t, more_of-Term as one-t, end_of-Terms as ends-t, more_of-Terms as ones-t}
-use Rattle.soqe_term.specs.World.{World, changed}
+use Rattle.soqe_term.specs.World.{World}
+use Rattle.soqe_number.specs.Updates.{changed}
 use Rattle.soqe_term.specs.Value.{value, values, apply}
-use Rattle.soqe_term.specs.Finite.{every, some, every_list, some_list, product, entry}
+use Rattle.soqe_number.specs.Finite.{every, some, every_list, some_list, product, entry}
 use Rattle.soqe_term.specs.Equal.{equal_symbols}
-use Rattle.soqe_term.proofs.Choices.{and_first, and_second}
+use Rattle.soqe_number.proofs.Choices.{and_first, and_second}
 use Rattle.soqe_term.proofs.EqualTerms.{equal_symbols-same}
 use Rattle.soqe_term.proofs.Worlds.{reading}
 use Rattle.soqe_form.specs.declared.form.Pred.{Pred}

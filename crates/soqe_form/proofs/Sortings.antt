@@ -1,6 +1,6 @@
 -- What the sorting of a formula depends on.
 use Rattle.std.proofs.Common.{◌≡◌, ℕ, false, eqb, ◌&&◌, List, Option, Some, refl}
-use Rattle.soqe_term.specs.World.{changed}
+use Rattle.soqe_number.specs.Updates.{changed}
 use Rattle.soqe_term.specs.Occurs.{occurs, AgreeOn}
 use Rattle.soqe_term.specs.Sorting.{Sorting, over_var, over_bound, with_sorts, own_sort}
 use Rattle.soqe_term.proofs.Worlds.{agree_changed, agree_under, agree-left, agree-right, eqb-self}

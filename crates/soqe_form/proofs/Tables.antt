@@ -1,11 +1,11 @@
 -- A table given as a function is tried as a list.
 use Rattle.std.proofs.Common.{◌≡◌, ℕ, Bool, true, false, cond, eqb, map, List, Option, Some, refl, sym, ◌∙◌, subst}
 use Rattle.soqe_term.specs.World.{World, with_bound}
-use Rattle.soqe_term.specs.Finite.{every_list, some_list, product, entry}
-use Rattle.soqe_term.specs.Ranges.{InRange, tabulated}
+use Rattle.soqe_number.specs.Finite.{every_list, some_list, product, entry}
+use Rattle.soqe_number.specs.Ranges.{InRange, tabulated}
 use Rattle.soqe_term.specs.Sorting.{Sorting, over_bound}
 use Rattle.soqe_term.specs.Fits.{Fits, EqualIn, Matches}
-use Rattle.soqe_term.proofs.Enumerations.{finds_list, every_list-at, entry-tabulated, length-tabulated}
+use Rattle.soqe_number.proofs.Enumerations.{finds_list, every_list-at, entry-tabulated, length-tabulated}
 use Rattle.soqe_term.proofs.Values.{fits-bound}
 use Rattle.soqe_form.specs.declared.form.Form.{Form}
 use Rattle.soqe_form.specs.Truth.{truth}

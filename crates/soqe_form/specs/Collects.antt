@@ -2,7 +2,7 @@
 use Rattle.std.specs.Prelude.{◌≡◌, ◌||◌, List, ◌++◌}
 use Rattle.soqe_term.specs.declared.term.Var.{Var}
 use Rattle.soqe_form.specs.declared.free_variables.Collected.{Collected}
-use Rattle.soqe_form.specs.Marks.{marked}
+use Rattle.soqe_number.specs.Marks.{marked}
 use Rattle.soqe_form.specs.FreeVars.{firsts, is_among}
 
 -- the occurrences without a mark were collected, each number once, and have a mark now

@@ -1,7 +1,8 @@
 -- Predicates, declared or bound: where they are free, and how a world and a sorting read them.
 use Rattle.std.specs.Prelude.{ℕ, suc, Bool, false, cond, eqb, ◌||◌, ◌&&◌, List, Some}
 use Rattle.soqe_term.specs.declared.term.Terms.{Terms, Nil, Cons', end_of-Term as end-t, more_of-Term as one-t, end_of-Terms as ends-t, more_of-Terms as ones-t}
-use Rattle.soqe_term.specs.World.{World, changed}
+use Rattle.soqe_term.specs.World.{World}
+use Rattle.soqe_number.specs.Updates.{changed}
 use Rattle.soqe_term.specs.Sorting.{Sorting}
 use Rattle.soqe_form.specs.declared.form.Pred.{Pred}
 use Rattle.soqe_form.specs.declared.form.Pred.TheVariants.{Decl, Bound}

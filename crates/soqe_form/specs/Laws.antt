@@ -2,7 +2,7 @@
 use Rattle.std.specs.Prelude.{ℕ, ◌≡◌, Bool, true, false, is_some, map, List, Some}
 use Rattle.soqe_term.specs.World.{World, with_bound}
 use Rattle.soqe_term.specs.Occurs.{AgreeOn}
-use Rattle.soqe_term.specs.Finite.{every_list, some_list, product, entry}
+use Rattle.soqe_number.specs.Finite.{every_list, some_list, product, entry}
 use Rattle.soqe_term.specs.Sorting.{Sorting, over_bound}
 use Rattle.soqe_term.specs.Fits.{Fits, Matches}
 use Rattle.soqe_form.specs.declared.form.Form.{Form}

@@ -3,11 +3,9 @@ pub mod Constants
 pub mod Quantifiers
 pub mod Truth
 pub mod Free
-pub mod Marks
 pub mod FreeVars
 pub mod Collects
 pub mod Sorted
-pub mod Scope
 pub mod Mentions
 pub mod MentionsPreds
 pub mod FreePreds
@@ -20,4 +18,3 @@ pub mod Same
 pub mod Pairs
 pub mod SameLaws
 pub mod Samples
-pub mod Counts

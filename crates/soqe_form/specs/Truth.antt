@@ -6,7 +6,7 @@ use Rattle.soqe_form.specs.declared.form.Pred.{Pred}
 use Rattle.soqe_form.specs.declared.form.Pred.TheVariants.{Decl, Bound}
 use Rattle.soqe_form.specs.declared.form.Form.{Form, True, False, Equal, Atom, Not', And, And', Or', Imp', Iff', All', Ex', All2', Ex2', end_of-Form as end, more_of-Form as one}
 use Rattle.soqe_form.specs.Boxes.{boxes}
-use Rattle.soqe_term.specs.Finite.{every, some, every_list, some_list, product, entry}
+use Rattle.soqe_number.specs.Finite.{every, some, every_list, some_list, product, entry}
 
 abbrev pub holds : World → Pred → List ℕ → Bool
 holds w (Decl n) args = w.declared n args

@@ -6,7 +6,7 @@ ghost use Rattle.soqe_form.specs.Places.{first_block as first_block_of, within, 
 ghost use Rattle.soqe_form.specs.Found.{upward, further, seen, seen_in};
 
 use crate::form::{Block, Form, PVar};
-use soqe_term::{Mem, Nums};
+use soqe_number::{Mem, Nums};
 use sqlite_items::Boxed;
 use std::alloc::Global;
 

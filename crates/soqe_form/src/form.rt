@@ -1,7 +1,8 @@
 //! Formulas, held by boxes, and their copies.
 ghost use Rattle.std.specs.Prelude.{◌≡◌, IfOk};
 
-use soqe_term::{Mem, Nums, Sorts, Term, Terms, Var, copy_term};
+use soqe_number::{Mem, Nums, Sorts};
+use soqe_term::{Term, Terms, Var, copy_term};
 use sqlite_items::Boxed;
 use std::alloc::Global;
 

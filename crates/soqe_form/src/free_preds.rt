@@ -5,11 +5,11 @@ ghost use Rattle.std.specs.Prelude.{◌≡◌, OnOk};
 ghost use Rattle.soqe_form.specs.Free.{is_bound};
 ghost use Rattle.soqe_form.specs.FreePreds.{same_pred, hides, has_free};
 ghost use Rattle.soqe_form.specs.MentionsPreds.{mentions_pred};
-ghost use Rattle.soqe_form.specs.Marks.{Adds};
+ghost use Rattle.soqe_number.specs.Marks.{Adds};
 
 use crate::form::{Form, PVar, Pred};
-use crate::marks::Marks;
-use soqe_term::Mem;
+use soqe_number::Marks;
+use soqe_number::Mem;
 
 /// Whether two predicates are one.
 pub fn is_same_pred(p: &Pred, q: &Pred) -> bool

@@ -9,31 +9,25 @@
 #![tactic(auto)]
 
 mod blocks;
-mod counts;
 mod form;
 mod free_preds;
 mod free_variables;
 pub mod laws;
 mod lists;
 pub mod make;
-mod marks;
 mod names;
 mod put;
 mod quantifiers;
 mod replace;
 mod sameness;
-mod sorting;
 
 pub use blocks::{BlockRef, find_block, first_block};
-pub use counts::{Counts, sum_of_counts};
 pub use form::{Block, Form, PVar, Pred, copy_boxed};
 pub use free_preds::{has_free_pred, is_hidden, is_same_pred, mark_preds};
 pub use free_variables::free_vars;
 pub use lists::{Forms, PVars};
-pub use marks::Marks;
-pub use names::{is_free, mark_form, mark_numbers, mark_term, mark_variables};
+pub use names::{is_free, mark_form, mark_term, mark_variables};
 pub use put::put_in;
 pub use quantifiers::{Quantifier, quantified};
 pub use replace::{put_beside, replace_at};
 pub use sameness::same;
-pub use sorting::well_sorted;

@@ -2,7 +2,7 @@
 ghost use Rattle.std.specs.Prelude.{◌≡◌, ◌∷◌, [], ◌++◌, length, IfOk, OnOk, OnErr};
 
 use crate::form::{Form, PVar, copy_boxed};
-use soqe_term::Mem;
+use soqe_number::Mem;
 use sqlite_items::Boxed;
 use std::alloc::Global;
 use std::marker::Model;

@@ -5,7 +5,8 @@ ghost use Rattle.soqe_form.specs.Constants.{constant};
 ghost use Rattle.soqe_form.specs.declared.form.Form.{Equal, Not, And, Or, Imp, Iff, All, Ex, All2, Ex2};
 
 use crate::form::{Form, PVar};
-use soqe_term::{Mem, Term, Var};
+use soqe_number::Mem;
+use soqe_term::{Term, Var};
 use sqlite_items::Boxed;
 use std::alloc::Global;
 

@@ -3,15 +3,15 @@
 
 ghost use Rattle.std.specs.Prelude.{◌≡◌, OnOk};
 ghost use Rattle.soqe_term.specs.Occurs.{occurs as occurs_in, occurs_any};
-ghost use Rattle.soqe_term.specs.Unused.{member};
 ghost use Rattle.soqe_form.specs.Free.{free};
 ghost use Rattle.soqe_form.specs.FreeVars.{is_among};
 ghost use Rattle.soqe_form.specs.Mentions.{mentions};
-ghost use Rattle.soqe_form.specs.Marks.{Adds};
+ghost use Rattle.soqe_number.specs.Marks.{Adds};
 
 use crate::form::Form;
-use crate::marks::Marks;
-use soqe_term::{Mem, Term, Terms, Var, occurs, occurs_in_any};
+use soqe_number::Marks;
+use soqe_number::Mem;
+use soqe_term::{Term, Terms, Var, occurs, occurs_in_any};
 
 /// Whether the variable with the number is free in the formula. It takes no memory.
 pub fn is_free(form: &Form, num: u64) -> bool
@@ -28,16 +28,6 @@ pub fn is_free(form: &Form, num: u64) -> bool
         Form::Not(f) | Form::All2(_, f) | Form::Ex2(_, f) => is_free(f.get(), num),
         Form::All(x, f) | Form::Ex(x, f) => num != x.num && is_free(f.get(), num),
     }
-}
-
-/// Marks the numbers.
-pub fn mark_numbers(numbers: &[u64], marks: &mut Marks) -> Mem<()>
-    ensures { OnOk result (Adds (λ n. member n numbers.now) marks.old marks.new) }
-{
-    for number in numbers {
-        marks.set(*number, true)?;
-    }
-    Ok(())
 }
 
 /// Marks the numbers of the variables.

@@ -9,7 +9,7 @@ use crate::make::{
     conjunction, constant, disjunction, equivalence, exists, exists_table, for_all, for_all_tables,
     implication, negation,
 };
-use soqe_term::Mem;
+use soqe_number::Mem;
 use sqlite_items::Boxed;
 use std::alloc::Global;
 

@@ -6,7 +6,8 @@ ghost use Rattle.soqe_form.specs.Quantifiers.{quantified as quantified_of};
 
 use crate::form::Form;
 use crate::make::{exists, for_all};
-use soqe_term::{Mem, Var};
+use soqe_number::Mem;
+use soqe_term::Var;
 use sqlite_items::Boxed;
 use std::alloc::Global;
 

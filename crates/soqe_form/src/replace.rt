@@ -5,7 +5,8 @@ ghost use Rattle.std.specs.Prelude.{◌≡◌, ◌∷◌, List, ℕ, IfOk, Match
 ghost use Rattle.soqe_form.specs.Places.{part_at, put_at, replaced};
 
 use crate::form::{Form, copy_boxed};
-use soqe_term::{Mem, Nums, copy_term};
+use soqe_number::{Mem, Nums};
+use soqe_term::copy_term;
 use sqlite_items::Boxed;
 use std::alloc::Global;
 

@@ -9,7 +9,8 @@ use Rattle.std.proofs.lemmas.List.Folds.{list_all_at}
 use Rattle.std.proofs.lemmas.List.Sums.{prefix_len-le-length, prefix_len_stops}
 use Rattle.soqe_lex.specs.declared.token.TokenKind.{TokenKind}
 use Rattle.soqe_lex.specs.declared.token.TokenKind.TheVariants.{Ordinary, Keyword, Tagged, Number, Mark}
-use Rattle.soqe_lex.specs.Lexical.{is_word, is_keyword, is_number, is_tag, is_tagged, is_mark, kind_from, kind_of, IsLongest, BeginsNone}
+use Rattle.soqe_lex.specs.Lexical.{is_number, is_tag, is_tagged, is_mark, kind_from, kind_of, IsLongest, BeginsNone}
+use Rattle.soqe_name.specs.Names.{is_word, is_keyword}
 use Rattle.soqe_lex.specs.Front.{IsLongestOf, HasNone}
 use Rattle.soqe_lex.proofs.Numbers.{other_first}
 

@@ -4,7 +4,8 @@ use Rattle.std.specs.List.{list_all}
 use Rattle.std.specs.Char.{is_ascii_digit, is_ascii_alphabetic}
 use Rattle.soqe_lex.specs.declared.token.TokenKind.{TokenKind}
 use Rattle.soqe_lex.specs.declared.token.TokenKind.TheVariants.{Ordinary, Keyword, Tagged, Number, Mark}
-use Rattle.soqe_lex.specs.Lexical.{is_word, is_keyword, is_number, is_tagged, is_mark, is_ordinary, kind_of}
+use Rattle.soqe_lex.specs.Lexical.{is_number, is_tagged, is_mark, kind_of}
+use Rattle.soqe_name.specs.Names.{is_word, is_keyword, is_ordinary}
 
 another : (digit number line tagged mark : Bool) → cond digit (cond number (Some Number) None) (cond line (cond tagged (Some Tagged) None) (cond mark (Some Mark) None)) ≡ Some Ordinary → ⊥
 another true true line tagged mark e = absurd cc

@@ -4,22 +4,10 @@ use Rattle.std.specs.List.{list_all, list_any, prefix_len}
 use Rattle.std.specs.Char.{is_ascii_digit, is_ascii_alphabetic}
 use Rattle.std.specs.Str.{bytes_eq}
 use Rattle.std.specs.Str.Parse.{digits_value}
+use Rattle.soqe_name.specs.Names.{is_word, is_keyword}
 use Rattle.soqe_lex.specs.declared.token.TokenKind.{TokenKind}
 use Rattle.soqe_lex.specs.declared.token.TokenKind.TheVariants.{Ordinary, Keyword, Tagged, Number, Mark}
 use Rattle.soqe_lex.specs.declared.token.Token.{Token}
-
--- letters, digits and the underscore
-abbrev pub is_word : ℕ → Bool
-is_word b = is_ascii_alphabetic b || is_ascii_digit b || b == 95
-
--- the words that are no names
-abbrev pub keywords : List (List ℕ)
-keywords =
-    codes "true" ∷ codes "false" ∷ codes "all" ∷ codes "ex" ∷ codes "all2" ∷ codes "ex2" ∷ codes "lfp" ∷ codes "sort" ∷ codes "fun" ∷ codes "pred" ∷ codes "var"
-    ∷ codes "goal" ∷ codes "rel" ∷ codes "prop" ∷ codes "nom" ∷ codes "axiom" ∷ codes "theory" ∷ codes "minimize" ∷ codes "vary" ∷ codes "level" ∷ []
-
-unfoldable pub is_keyword : List ℕ → Bool
-is_keyword text = list_any (bytes_eq text) keywords
 
 -- some text, and no 0 in front of further digits
 abbrev pub has_no_leading_zero : List ℕ → Bool
@@ -72,11 +60,6 @@ kind_from b bs =
 unfoldable pub kind_of : List ℕ → Option TokenKind
 kind_of [] = None
 kind_of (b ∷ bs) = kind_from b bs
-
--- a letter, then letters, digits and underscores, and no keyword
-abbrev pub is_ordinary : List ℕ → Bool
-is_ordinary [] = false
-is_ordinary (b ∷ bs) = is_ascii_alphabetic b && list_all is_word bs && not (is_keyword (b ∷ bs))
 
 -- The first n bytes are a token, and no more of them are one.
 pub record IsLongest (bytes : List ℕ) (n : ℕ) (kind : TokenKind) : Type 0 where

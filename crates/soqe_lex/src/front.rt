@@ -1,13 +1,14 @@
 //! The longest token at the front of a text.
 ghost use Rattle.std.specs.Prelude.{◌≡◌, ◌<◌, length, MatchOption};
 ghost use Rattle.std.specs.List.{prefix_len};
-ghost use Rattle.soqe_lex.specs.Lexical.{is_word, is_tag, is_tagged, IsLongest, BeginsNone};
+ghost use Rattle.soqe_lex.specs.Lexical.{is_tag, is_tagged, IsLongest, BeginsNone};
+ghost use Rattle.soqe_name.specs.Names.{is_word};
 ghost use Rattle.soqe_lex.specs.Front.{IsLongestOf, HasNone};
 
 use crate::mark::mark_len;
 use crate::number::number_len;
 use crate::token::TokenKind;
-use crate::word::{is_keyword, is_word_byte};
+use soqe_name::{is_keyword, is_word_byte};
 
 /// The longest token at the front: its kind, and how many bytes it has. It takes no memory.
 #[tactic(auto, using(crate::proofs::Fronts::word_longest, crate::proofs::Fronts::number_longest, crate::proofs::Fronts::number_none, crate::proofs::Fronts::tagged_longest, crate::proofs::Fronts::tagged_none, crate::proofs::Fronts::mark_longest, crate::proofs::Fronts::mark_none))]

@@ -3,7 +3,8 @@ ghost use Rattle.std.specs.Prelude.{◌≡◌, ◌↔◌, ℕ, List, Option, tru
 ghost use Rattle.std.specs.List.{All};
 ghost use Rattle.soqe_lex.specs.declared.token.Token.{Token};
 ghost use Rattle.soqe_lex.specs.declared.token.TokenKind.TheVariants.{Ordinary};
-ghost use Rattle.soqe_lex.specs.Lexical.{Lexed, kind_of, is_ordinary};
+ghost use Rattle.soqe_lex.specs.Lexical.{Lexed, kind_of};
+ghost use Rattle.soqe_name.specs.Names.{is_ordinary};
 ghost use Rattle.soqe_lex.specs.Spans.{IsWithin, InOrder, StopsBehind};
 
 /// A text falls into tokens in one way.

@@ -12,9 +12,7 @@ mod lexer;
 mod mark;
 mod number;
 mod token;
-mod word;
 
 pub use laws::{one_way, ordinary, spans};
 pub use lexer::lexemes;
 pub use token::{Lexemes, Token, TokenKind, TokenList};
-pub use word::{is_ordinary, is_ordinary_str};

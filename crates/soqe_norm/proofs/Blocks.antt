@@ -12,11 +12,11 @@ use Rattle.std.proofs.Common.{◌≡◌, ℕ, Bool, true, false, cond, not, map,
 use Rattle.std.specs.Prelude.{position}
 use Rattle.std.specs.Option.{is_some}
 use Rattle.soqe_term.specs.World.{World, with_bound}
-use Rattle.soqe_term.specs.Finite.{every_list, some_list, product, entry}
+use Rattle.soqe_number.specs.Finite.{every_list, some_list, product, entry}
 use Rattle.soqe_term.specs.Sorting.{Sorting, over_bound}
 use Rattle.soqe_term.specs.Fits.{Fits}
-use Rattle.soqe_term.proofs.Choices.{same_test, not_twice}
-use Rattle.soqe_term.proofs.Enumerations.{found_list, every_list-from}
+use Rattle.soqe_number.proofs.Choices.{same_test, not_twice}
+use Rattle.soqe_number.proofs.Enumerations.{found_list, every_list-from}
 use Rattle.soqe_form.specs.declared.form.Pred.TheVariants.{Bound}
 use Rattle.soqe_form.specs.declared.form.PVar.{PVar}
 use Rattle.soqe_form.specs.declared.form.Block.{Block}

@@ -5,7 +5,7 @@ use Rattle.std.proofs.lemmas.Bool.{and_parts, and_from}
 use Rattle.std.proofs.lemmas.List.{map-append}
 use Rattle.soqe_term.specs.declared.term.Var.{Var}
 use Rattle.soqe_term.specs.Sorting.{Sorting, over_var}
-use Rattle.soqe_term.proofs.Choices.{by_cases}
+use Rattle.soqe_number.proofs.Choices.{by_cases}
 use Rattle.soqe_form.specs.declared.form.Pred.{Pred}
 use Rattle.soqe_form.specs.declared.form.Form.{Form, True, False, Equal, Atom, Not', And, And', Or, Or', Imp', Iff', All', Ex, Ex', All2', Ex2', end_of-Form as end, more_of-Form as one}
 use Rattle.soqe_form.specs.Boxes.{boxes}

@@ -6,9 +6,9 @@ use Rattle.std.specs.List.{AllByRecursion}
 use Rattle.std.proofs.lemmas.List.{map-append}
 use Rattle.soqe_term.specs.declared.term.Var.{Var}
 use Rattle.soqe_term.specs.World.{World, with_var}
-use Rattle.soqe_term.specs.Finite.{some}
+use Rattle.soqe_number.specs.Finite.{some}
 use Rattle.soqe_term.specs.Sorting.{Sorting}
-use Rattle.soqe_term.proofs.Choices.{by_cases}
+use Rattle.soqe_number.proofs.Choices.{by_cases}
 use Rattle.soqe_form.specs.declared.form.Pred.{Pred}
 use Rattle.soqe_form.specs.declared.form.Form.{Form, True, False, Equal, Atom, Not, Not', And, And', Or, Or', Imp, Imp', Iff, Iff', All, All', Ex, Ex', All2, All2', Ex2, Ex2', end_of-Form as end, more_of-Form as one}
 use Rattle.soqe_form.specs.Boxes.{boxes}

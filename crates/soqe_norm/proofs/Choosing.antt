@@ -3,10 +3,10 @@ use Rattle.std.proofs.Common.{◌≡◌, ℕ, ◌<◌, Bool, true, false, cond, 
 use Rattle.std.specs.Bool.{MatchBool}
 use Rattle.std.proofs.lemmas.List.Folds.{list_any-append}
 use Rattle.soqe_term.specs.declared.term.Var.{Var}
-use Rattle.soqe_term.specs.World.{changed}
-use Rattle.soqe_term.specs.Unused.{member}
+use Rattle.soqe_number.specs.Updates.{changed}
+use Rattle.soqe_number.specs.Unused.{member}
 use Rattle.soqe_form.specs.declared.form.Form.{Form}
-use Rattle.soqe_form.specs.Marks.{marked, Adds, IsLeastWithout}
+use Rattle.soqe_number.specs.Marks.{marked, Adds, IsLeastWithout}
 use Rattle.soqe_form.specs.FreeVars.{free_vars, is_among}
 use Rattle.soqe_form.proofs.FreeVariables.{is_among-free_vars}
 use Rattle.soqe_form.proofs.Numbers.{least-one}

@@ -2,10 +2,10 @@
 use Rattle.std.proofs.Common.{◌≡◌, ℕ, Bool, true, false, cond, eqb, not, ◌||◌, ◌&&◌, map, refl, sym, ◌∙◌, ap}
 use Rattle.std.proofs.lemmas.Bool.{and_from}
 use Rattle.soqe_term.specs.World.{World, with_var, with_bound}
-use Rattle.soqe_term.specs.Finite.{every, some, every_list, some_list, product, entry}
+use Rattle.soqe_number.specs.Finite.{every, some, every_list, some_list, product, entry}
 use Rattle.soqe_term.specs.Sorting.{Sorting, over_var, over_bound}
-use Rattle.soqe_term.proofs.Choices.{not_and, not_or, not_twice}
-use Rattle.soqe_term.proofs.Enumerations.{not_every, not_some, not_every_list, not_some_list}
+use Rattle.soqe_number.proofs.Choices.{not_and, not_or, not_twice}
+use Rattle.soqe_number.proofs.Enumerations.{not_every, not_some, not_every_list, not_some_list}
 use Rattle.soqe_form.specs.declared.form.Form.{Form, True, False, Equal, Atom, Not', And', Or', Imp', Iff', All', Ex', All2', Ex2', end_of-Form as end, more_of-Form as one}
 use Rattle.soqe_form.specs.Boxes.{boxes}
 use Rattle.soqe_form.specs.Truth.{truth, alike}

@@ -3,9 +3,9 @@ use Rattle.std.proofs.Common.{◌≡◌, ℕ, Bool, true, false, cond, eqb, ◌|
 use Rattle.std.proofs.lemmas.Bool.{eqb-true, false_from_ne_true, both_ways, or_cases, or_left, or_right, and_parts, and_from}
 use Rattle.std.proofs.lemmas.List.Folds.{list_any-append}
 use Rattle.soqe_term.specs.World.{World, with_var}
-use Rattle.soqe_term.specs.Finite.{every, some}
-use Rattle.soqe_term.specs.Unused.{member}
-use Rattle.soqe_term.proofs.Choices.{or_none_first, or_none_second}
+use Rattle.soqe_number.specs.Finite.{every, some}
+use Rattle.soqe_number.specs.Unused.{member}
+use Rattle.soqe_number.proofs.Choices.{or_none_first, or_none_second}
 use Rattle.soqe_form.specs.declared.form.Form.{Form, True, False, Equal, Atom, Not', And, And', Or, Or', Imp', Iff', All, All', Ex, Ex', All2', Ex2', end_of-Form as end, more_of-Form as one}
 use Rattle.soqe_form.specs.Boxes.{boxes}
 use Rattle.soqe_form.specs.Truth.{truth}

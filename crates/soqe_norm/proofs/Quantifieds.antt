@@ -5,7 +5,7 @@ use Rattle.std.proofs.Common.{◌≡◌, ℕ, zero, suc, ◌<◌, Bool, true, fa
 use Rattle.std.proofs.lemmas.Bool.{or_left, or_right}
 use Rattle.std.specs.List.{list_any}
 use Rattle.soqe_term.specs.World.{World, with_var}
-use Rattle.soqe_term.specs.Finite.{every, some}
+use Rattle.soqe_number.specs.Finite.{every, some}
 use Rattle.soqe_term.proofs.Worlds.{eqb-self}
 use Rattle.soqe_form.specs.declared.form.Form.{Form, All, Ex}
 use Rattle.soqe_form.specs.Boxes.{boxes}

@@ -3,8 +3,8 @@ use Rattle.std.proofs.Common.{◌≡◌, ℕ, zero, suc, Bool, true, false, cond
 use Rattle.std.proofs.lemmas.Bool.{eqb-true, eq-eqb, and_parts, and_from, or_cases, or_left, or_right, or_parts}
 use Rattle.soqe_term.specs.World.{World, with_var, with_bound}
 use Rattle.soqe_term.specs.Value.{values}
-use Rattle.soqe_term.specs.Finite.{every, some, every_list, some_list, product, entry}
-use Rattle.soqe_term.proofs.Choices.{same_test}
+use Rattle.soqe_number.specs.Finite.{every, some, every_list, some_list, product, entry}
+use Rattle.soqe_number.proofs.Choices.{same_test}
 use Rattle.soqe_term.proofs.Worlds.{changed-again, changed-commutes, value-bound, values-bound}
 use Rattle.soqe_form.specs.declared.form.Pred.{Pred}
 use Rattle.soqe_form.specs.declared.form.Pred.TheVariants.{Decl, Bound}

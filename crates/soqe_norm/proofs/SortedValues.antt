@@ -2,7 +2,7 @@
 use Rattle.std.proofs.Common.{◌≡◌, ℕ, Bool, true, false, cond, eqb, ◌&&◌, List, Option, Some, refl, sym, ◌∙◌, ap}
 use Rattle.std.proofs.lemmas.Bool.{eqb-true, and_parts, and_from}
 use Rattle.soqe_term.specs.declared.term.Terms.{Terms}
-use Rattle.soqe_term.specs.World.{changed}
+use Rattle.soqe_number.specs.Updates.{changed}
 use Rattle.soqe_term.specs.Sorting.{Sorting, over_var, over_bound, with_sorts, own_sort, sorted_terms}
 use Rattle.soqe_term.proofs.Sortings.{sorted_term-agree, sorted_terms-agree}
 use Rattle.soqe_term.proofs.Worlds.{changed-again, changed-commutes}

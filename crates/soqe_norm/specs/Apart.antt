@@ -3,8 +3,8 @@
 -- number or gets a new one; then the formula is written again with these numbers.
 use Rattle.std.specs.Prelude.{◌≡◌, ℕ, suc, ◌+◌, ◌<◌, Bool, true, false, eqb, not, ◌||◌, List, [], ◌∷◌, ◌++◌, length, slice_index}
 use Rattle.std.specs.Bool.{MatchBool}
-use Rattle.soqe_term.specs.World.{changed}
-use Rattle.soqe_term.specs.Unused.{member}
+use Rattle.soqe_number.specs.Updates.{changed}
+use Rattle.soqe_number.specs.Unused.{member}
 use Rattle.soqe_term.specs.Renumber.{numbered, renumbered as renumbered_term, all_renumbered}
 use Rattle.soqe_form.specs.declared.form.Form.{Form, True, False, Equal, Atom, Not, Not', And, And', Or, Or', Imp, Imp', Iff, Iff', All, All', Ex, Ex', All2, All2', Ex2, Ex2', end_of-Form as end, more_of-Form as one}
 use Rattle.soqe_form.specs.Free.{free}

@@ -2,7 +2,7 @@
 use Rattle.std.specs.Prelude.{ℕ, ◌≡◌, ◌≢◌, true, false, List, All, AllPairs}
 use Rattle.soqe_term.specs.World.{World}
 use Rattle.soqe_term.specs.Sorting.{Sorting}
-use Rattle.soqe_term.specs.Unused.{member}
+use Rattle.soqe_number.specs.Unused.{member}
 use Rattle.soqe_form.specs.declared.form.Form.{Form}
 use Rattle.soqe_form.specs.Truth.{truth}
 use Rattle.soqe_form.specs.Free.{free, free_pred}

@@ -6,11 +6,11 @@
 
 ghost use Rattle.std.specs.Prelude.{◌≡◌, ◌+◌, ◌<◌, ◌≤◌, ℕ, suc, IfOk, OnOk, true, ◌||◌, ◌++◌, length, slice_index};
 ghost use Rattle.std.specs.Bool.{MatchBool};
-ghost use Rattle.soqe_term.specs.World.{changed};
+ghost use Rattle.soqe_number.specs.Updates.{changed};
 ghost use Rattle.soqe_term.specs.Renumber.{renames, renumbered as term_under};
-ghost use Rattle.soqe_term.specs.Unused.{member};
+ghost use Rattle.soqe_number.specs.Unused.{member};
 ghost use Rattle.soqe_form.specs.FreeVars.{is_among};
-ghost use Rattle.soqe_form.specs.Marks.{marked, Adds, IsLeastWithout};
+ghost use Rattle.soqe_number.specs.Marks.{marked, Adds, IsLeastWithout};
 ghost use Rattle.soqe_norm.specs.Apart.{binders as binders_in, renumbered as form_under, taken_first, AreChoices, IsApart};
 ghost use Rattle.soqe_norm.specs.ApartLaws.{ApartIsSame, ApartKeepsTruth, ApartKeepsSorts, ApartIsDistinct, ApartAvoids, ApartFromFree, ApartKeepsVariables, ApartKeepsPredicates, ApartKeepsNormal, ApartKeepsBlocks};
 
@@ -18,8 +18,10 @@ use soqe_form::make::{
     conjunction, disjunction, equivalence, exists, exists_table, for_all, for_all_tables,
     implication, negation,
 };
-use soqe_form::{Form, Marks, free_vars, mark_numbers, mark_variables};
-use soqe_term::{Mem, Nums, Renaming, Term, Var, Vars, renumber as renumber_term, renumber_all};
+use soqe_form::{Form, free_vars, mark_variables};
+use soqe_number::{Marks, mark_numbers};
+use soqe_number::{Mem, Nums};
+use soqe_term::{Renaming, Term, Var, Vars, renumber as renumber_term, renumber_all};
 use sqlite_items::Boxed;
 use std::alloc::Global;
 

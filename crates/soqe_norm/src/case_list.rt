@@ -2,7 +2,8 @@
 ghost use Rattle.std.specs.Prelude.{◌≡◌, ◌∷◌, [], ◌++◌, IfOk, OnOk, OnErr, length};
 
 use soqe_form::Forms;
-use soqe_term::{Mem, Vars};
+use soqe_number::Mem;
+use soqe_term::Vars;
 use std::alloc::Global;
 use std::marker::Model;
 

@@ -12,7 +12,8 @@ use crate::apart::apart;
 use crate::case_list::{Case, CaseList};
 use crate::splits::{Part, Split, find_split, spread};
 use soqe_form::{Form, Forms, Pred};
-use soqe_term::{Mem, Nums, Vars};
+use soqe_number::{Mem, Nums};
+use soqe_term::Vars;
 use sqlite_items::Boxed;
 use std::alloc::Global;
 

@@ -10,7 +10,8 @@ ghost use Rattle.soqe_norm.specs.Joins.{with_or, with_and};
 use crate::case_list::Case;
 use soqe_form::make::{conjunction, constant, disjunction, exists};
 use soqe_form::{Form, Forms};
-use soqe_term::{Mem, Var};
+use soqe_number::Mem;
+use soqe_term::Var;
 use sqlite_items::Boxed;
 use std::alloc::Global;
 

@@ -10,7 +10,8 @@ use soqe_form::make::{
     conjunction, constant, disjunction, exists, exists_table, for_all, for_all_tables, negation,
 };
 use soqe_form::{Form, Pred};
-use soqe_term::{Mem, Term, Terms, copy_term};
+use soqe_number::Mem;
+use soqe_term::{Term, Terms, copy_term};
 use sqlite_items::Boxed;
 use std::alloc::Global;
 

@@ -9,7 +9,7 @@ ghost use Rattle.soqe_norm.specs.PrenexLaws.{PrenexKeepsTruth, PrenexIsPrenex, P
 use crate::apart::apart;
 use soqe_form::make::{conjunction, disjunction};
 use soqe_form::{Form, Quantifier, quantified};
-use soqe_term::{Mem, Nums};
+use soqe_number::{Mem, Nums};
 use sqlite_items::Boxed;
 use std::alloc::Global;
 

@@ -9,7 +9,8 @@ ghost use Rattle.soqe_norm.specs.Splits.{Falls, split_cases, undivided as undivi
 use crate::case_list::Case;
 use soqe_form::make::{conjunction, disjunction, exists};
 use soqe_form::{Form, Pred, copy_boxed, has_free_pred};
-use soqe_term::{Mem, Var};
+use soqe_number::Mem;
+use soqe_term::Var;
 use sqlite_items::Boxed;
 use std::alloc::Global;
 

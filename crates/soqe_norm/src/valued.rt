@@ -12,7 +12,8 @@ use soqe_form::make::{
     implication, negation,
 };
 use soqe_form::{BlockRef, Form, PVar, Pred, copy_boxed};
-use soqe_term::{Mem, copy_term};
+use soqe_number::Mem;
+use soqe_term::copy_term;
 use sqlite_items::Boxed;
 use std::alloc::Global;
 

@@ -9,7 +9,7 @@ use Rattle.soqe_term.specs.declared.term.Term.{Term}
 use Rattle.soqe_term.specs.declared.term.Terms.{Terms, Nil, Cons}
 use Rattle.soqe_term.specs.Boxes.{boxes as term_boxes}
 use Rattle.soqe_term.specs.Bindings.{bound_term}
-use Rattle.soqe_term.proofs.Choices.{bool_cases}
+use Rattle.soqe_number.proofs.Choices.{bool_cases}
 use Rattle.soqe_subst.specs.Substitution.{visible, without}
 use Rattle.soqe_subst.proofs.Binders.{visible-visible, visible-all}
 use Rattle.soqe_psub.specs.PredSubst.{arguments}

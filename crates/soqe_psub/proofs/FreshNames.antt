@@ -2,12 +2,12 @@
 use Rattle.std.proofs.Common.{◌≡◌, ℕ, suc, max, Bool, true, false, cond, eqb, not, ◌||◌, ◌&&◌, List, [], ◌∷◌, ◌++◌, refl, sym, ◌∙◌, ap, arith}
 use Rattle.std.proofs.lemmas.Bool.{ne_eqb, or_from}
 use Rattle.soqe_term.specs.declared.term.Var.{Var}
-use Rattle.soqe_term.specs.World.{changed}
+use Rattle.soqe_number.specs.Updates.{changed}
 use Rattle.soqe_form.specs.declared.form.PVar.{PVar}
 use Rattle.soqe_form.specs.declared.form.Form.{Form}
 use Rattle.soqe_form.specs.Free.{free}
 use Rattle.soqe_form.specs.FreeVars.{free_vars, is_among}
-use Rattle.soqe_form.specs.Marks.{marked, Adds, IsLeastWithout}
+use Rattle.soqe_number.specs.Marks.{marked, Adds, IsLeastWithout}
 use Rattle.soqe_form.specs.Mentions.{mentions, form_above}
 use Rattle.soqe_form.specs.MentionsPreds.{mentions_pred, preds_above}
 use Rattle.soqe_form.proofs.Numbers.{first-unmarked}

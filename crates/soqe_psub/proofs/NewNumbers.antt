@@ -2,7 +2,7 @@
 use Rattle.std.proofs.Common.{◌≡◌, ℕ, suc, max, ◌+◌, ◌≤◌, Bool, true, false, eqb, not, ◌||◌, List, [], ◌∷◌, refl, sym, ap, arith}
 use Rattle.std.proofs.lemmas.Bool.{ne_eqb, or_from}
 use Rattle.soqe_term.specs.declared.term.Var.{Var}
-use Rattle.soqe_term.proofs.Choices.{or_none_first, or_none_second}
+use Rattle.soqe_number.proofs.Choices.{or_none_first, or_none_second}
 use Rattle.soqe_term.proofs.Worlds.{first_from-passes}
 use Rattle.soqe_form.specs.declared.form.PVar.{PVar}
 use Rattle.soqe_form.specs.declared.form.Form.{Form}

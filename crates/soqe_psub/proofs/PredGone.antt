@@ -5,7 +5,7 @@ use Rattle.std.proofs.lemmas.List.{length-map}
 use Rattle.soqe_term.specs.declared.term.Var.{Var}
 use Rattle.soqe_term.specs.declared.term.Terms.{Terms}
 use Rattle.soqe_term.specs.Sorting.{Sorting}
-use Rattle.soqe_term.proofs.Choices.{by_cases, bool_cases, and_second, or_none_first, or_none_second}
+use Rattle.soqe_number.proofs.Choices.{by_cases, bool_cases, and_second, or_none_first, or_none_second}
 use Rattle.soqe_form.specs.declared.form.PVar.{PVar}
 use Rattle.soqe_form.specs.declared.form.Pred.{Pred}
 use Rattle.soqe_form.specs.declared.form.Form.{Form, True, False, Equal, Atom, Not', And', Or', Imp', Iff', All', Ex', All2, All2', Ex2, Ex2', end_of-Form as end, more_of-Form as one}

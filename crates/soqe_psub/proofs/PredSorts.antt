@@ -10,10 +10,10 @@ use Rattle.std.proofs.lemmas.List.{length-map}
 use Rattle.soqe_term.specs.declared.bindings.Bound.{Bound as Pair}
 use Rattle.soqe_term.specs.declared.term.Var.{Var}
 use Rattle.soqe_term.specs.declared.term.Terms.{Terms, Nil, Cons', end_of-Term as end-t, more_of-Term as one-t, end_of-Terms as ends-t, more_of-Terms as ones-t}
-use Rattle.soqe_term.specs.World.{changed}
+use Rattle.soqe_number.specs.Updates.{changed}
 use Rattle.soqe_term.specs.Bindings.{over_binding, HasOwnSorts, AreSorted}
 use Rattle.soqe_term.specs.Sorting.{Sorting, over_var, over_bound, with_sorts, own_sort, sorted_term, sorted_terms}
-use Rattle.soqe_term.proofs.Choices.{by_cases, bool_cases, and_first, and_second, and_fails}
+use Rattle.soqe_number.proofs.Choices.{by_cases, bool_cases, and_first, and_second, and_fails}
 use Rattle.soqe_term.proofs.Worlds.{changed-at, changed-off, changed-again, changed-commutes, agree_changed}
 use Rattle.soqe_form.specs.declared.form.PVar.{PVar}
 use Rattle.soqe_form.specs.declared.form.Pred.{Pred}

@@ -6,11 +6,12 @@ use Rattle.std.proofs.Common.{◌≡◌, ℕ, zero, suc, ◌<◌, ◌≤◌, Boo
 use Rattle.std.proofs.lemmas.Bool.{eqb-true, ne_eqb, or_from, both_ways}
 use Rattle.soqe_term.specs.declared.term.Var.{Var}
 use Rattle.soqe_term.specs.declared.term.Terms.{Terms, Nil, Cons', end_of-Term as end-t, more_of-Term as one-t, end_of-Terms as ends-t, more_of-Terms as ones-t}
-use Rattle.soqe_term.specs.World.{World, changed, with_var, with_bound}
+use Rattle.soqe_term.specs.World.{World, with_var, with_bound}
+use Rattle.soqe_number.specs.Updates.{changed}
 use Rattle.soqe_term.specs.Value.{value, values}
-use Rattle.soqe_term.specs.Finite.{every, some, every_list, some_list, product, entry}
+use Rattle.soqe_number.specs.Finite.{every, some, every_list, some_list, product, entry}
 use Rattle.soqe_term.specs.Bindings.{assigned}
-use Rattle.soqe_term.proofs.Choices.{by_cases, bool_cases, and_first, and_second, and_fails}
+use Rattle.soqe_number.proofs.Choices.{by_cases, bool_cases, and_first, and_second, and_fails}
 use Rattle.soqe_term.proofs.Worlds.{reading, changed-at, changed-off, agree_changed}
 use Rattle.soqe_form.specs.declared.form.PVar.{PVar}
 use Rattle.soqe_form.specs.declared.form.Pred.{Pred}

@@ -1,7 +1,8 @@
 -- What a formula says after a predicate was replaced.
 use Rattle.std.specs.Prelude.{ℕ, ◌≡◌, ◌≤◌, Bool, true, false, eqb, cond, List, [], ◌∷◌, length, map, Option, Some}
 use Rattle.soqe_term.specs.declared.term.Var.{Var}
-use Rattle.soqe_term.specs.World.{World, changed}
+use Rattle.soqe_term.specs.World.{World}
+use Rattle.soqe_number.specs.Updates.{changed}
 use Rattle.soqe_term.specs.Sorting.{Sorting}
 use Rattle.soqe_form.specs.declared.form.Pred.{Pred}
 use Rattle.soqe_form.specs.declared.form.Form.{Form}

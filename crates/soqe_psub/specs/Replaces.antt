@@ -10,7 +10,7 @@ use Rattle.soqe_form.specs.declared.form.Form.{Form}
 use Rattle.soqe_form.specs.Free.{free}
 use Rattle.soqe_form.specs.FreeVars.{is_among}
 use Rattle.soqe_form.specs.FreePreds.{hides}
-use Rattle.soqe_form.specs.Marks.{marked}
+use Rattle.soqe_number.specs.Marks.{marked}
 use Rattle.soqe_form.specs.Mentions.{depth}
 use Rattle.soqe_psub.specs.declared.pred_substitution.Replacement.{Replacement}
 use Rattle.soqe_psub.specs.PredSubst.{IsPredSub, pred_sub, new_binder, new_body, new_pred_binder, new_pred_body}

@@ -2,12 +2,14 @@
 
 ghost use Rattle.std.specs.Prelude.{◌≡◌, cond, IfOk, OnOk};
 ghost use Rattle.soqe_form.specs.FreeVars.{is_among};
-ghost use Rattle.soqe_form.specs.Marks.{marked};
+ghost use Rattle.soqe_number.specs.Marks.{marked};
 ghost use Rattle.soqe_psub.specs.PredSubst.{fresh_var as least_var, fresh_pred as least_pred};
 ghost use Rattle.soqe_psub.specs.Replaces.{is_own};
 
-use soqe_form::{Form, Marks, PVar, free_vars, mark_form, mark_preds};
-use soqe_term::{Mem, Var, Vars};
+use soqe_form::{Form, PVar, free_vars, mark_form, mark_preds};
+use soqe_number::Marks;
+use soqe_number::Mem;
+use soqe_term::{Var, Vars};
 use std::alloc::Global;
 
 /// Sets or takes away the mark of each variable.

@@ -2,7 +2,7 @@
 use Rattle.std.proofs.Common.{◌≡◌, ◌++◌, List, Some, None, codes, ◌∙◌, ap, sym, append-nil, append_assoc}
 use Rattle.soqe_syntax.specs.Grammar as tree
 use Rattle.soqe_term.specs.declared.term.Terms.{Terms, Nil, Cons', end_of-Term as end-t, more_of-Term as one-t, end_of-Terms as ends-t, more_of-Terms as ones-t}
-use Rattle.soqe_term.specs.Declarations.{Declaration}
+use Rattle.soqe_signature.specs.Declarations.{Declaration}
 use Rattle.soqe_show.specs.Printed.{Text, term_text, terms_text}
 use Rattle.soqe_show.specs.Dress.{applied, dress_term, dress_terms_onto}
 use Rattle.soqe_show.specs.Lines.{args_text, further_args_text}

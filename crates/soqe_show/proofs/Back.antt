@@ -8,8 +8,8 @@ use Rattle.soqe_syntax.specs.Grammar as syntax
 use Rattle.soqe_syntax.specs.Grammar.{IsLevelled}
 use Rattle.soqe_syntax.specs.Pieces.{HasProblem}
 use Rattle.std.proofs.lemmas.Bool.{lt-ltb}
-use Rattle.soqe_term.specs.declared.kinds.NameKind.TheVariants as numbering
-use Rattle.soqe_term.specs.Declarations.{Declaration, count_of}
+use Rattle.soqe_signature.specs.declared.kinds.NameKind.TheVariants as numbering
+use Rattle.soqe_signature.specs.Declarations.{Declaration, count_of}
 use Rattle.soqe_form.specs.declared.form.Form.{Form}
 use Rattle.soqe_text.specs.declared.problem.Problem.{Problem}
 use Rattle.soqe_text.specs.declared.problem.Problem.TheVariants as problem

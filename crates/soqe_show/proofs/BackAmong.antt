@@ -3,13 +3,13 @@ use Rattle.std.proofs.Common.{◌≡◌, ℕ, ◌<◌, ◌^◌, Bool, true, fals
 use Rattle.std.specs.List.{list_all, list_any}
 use Rattle.std.proofs.lemmas.Bool.{ltb-true, eq-eqb, or_left, or_right}
 use Rattle.std.proofs.lemmas.Option.{none-some}
-use Rattle.soqe_term.specs.declared.skolems.SkolemSig.{SkolemSig}
+use Rattle.soqe_signature.specs.declared.skolems.SkolemSig.{SkolemSig}
 use Rattle.soqe_term.specs.declared.term.Var.{Var}
 use Rattle.soqe_term.specs.Sorting.{FunSort}
-use Rattle.soqe_term.specs.SkolemSigs.{skolem_sort_of}
-use Rattle.soqe_term.proofs.Choices.{and_first, and_second}
+use Rattle.soqe_signature.specs.SkolemSigs.{skolem_sort_of}
+use Rattle.soqe_number.proofs.Choices.{and_first, and_second}
 use Rattle.soqe_form.specs.declared.form.PVar.{PVar}
-use Rattle.soqe_form.specs.Scope.{sort_among, sorts_among}
+use Rattle.soqe_signature.specs.Scope.{sort_among, sorts_among}
 use Rattle.soqe_show.specs.FormBack.{is_small}
 
 -- what the first item with a number has

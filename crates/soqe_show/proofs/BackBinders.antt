@@ -2,9 +2,9 @@
 use Rattle.std.proofs.Common.{◌≡◌, ℕ, Bool, true, false, cond, not, eqb, List, [], ◌∷◌, map, Option, Some, None, refl, ap, sym, eqb-true}
 use Rattle.std.specs.List.{list_all}
 use Rattle.std.proofs.lemmas.Bool.{and_from}
-use Rattle.soqe_term.specs.declared.skolems.SkolemSig.{SkolemSig}
-use Rattle.soqe_term.specs.Declarations.{Declaration, HasDistinctNames}
-use Rattle.soqe_term.proofs.Choices.{and_first, and_second}
+use Rattle.soqe_signature.specs.declared.skolems.SkolemSig.{SkolemSig}
+use Rattle.soqe_signature.specs.Declarations.{Declaration, HasDistinctNames}
+use Rattle.soqe_number.proofs.Choices.{and_first, and_second}
 use Rattle.soqe_text.specs.Meanings.{found_in, form_names}
 use Rattle.soqe_text.specs.Naming.{is_usable, sort_of_found}
 use Rattle.soqe_text.specs.Uses.{is_no_sort}

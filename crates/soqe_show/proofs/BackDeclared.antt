@@ -1,11 +1,11 @@
 -- Declarations of texts are used rightly as those over places are; those that are printed are those that were read.
 use Rattle.std.proofs.Common.{◌≡◌, ℕ, Bool, true, ◌&&◌, List, [], ◌∷◌, ◌++◌, map, Option, Some, None, is_none, refl, ◌∙◌, ap, sym, append-nil, true≢false}
 use Rattle.std.specs.List.{list_all}
-use Rattle.soqe_lex.specs.Lexical.{is_keyword}
+use Rattle.soqe_name.specs.Names.{is_keyword}
 use Rattle.soqe_syntax.specs.declared.piece.Span.{Span}
 use Rattle.soqe_syntax.specs.Grammar.{Tree, Declared, DeclaredSort, DeclaredFun, DeclaredPred, DeclaredVar}
-use Rattle.soqe_term.proofs.Choices.{and_first, and_second}
-use Rattle.soqe_term.specs.Declarations.{Declaration, Found, lookup}
+use Rattle.soqe_number.proofs.Choices.{and_first, and_second}
+use Rattle.soqe_signature.specs.Declarations.{Declaration, Found, lookup}
 use Rattle.soqe_text.specs.Meanings.{problem_names}
 use Rattle.soqe_text.specs.NewNames.{first_declared}
 use Rattle.soqe_text.specs.Naming.{is_usable, sort_of_found}

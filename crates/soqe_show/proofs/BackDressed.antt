@@ -11,13 +11,13 @@ use Rattle.soqe_term.specs.Boxes.{boxes as term_boxes}
 use Rattle.soqe_term.specs.declared.term.Var.{Var}
 use Rattle.soqe_term.specs.declared.term.Term as term
 use Rattle.soqe_term.specs.declared.term.Terms as terms
-use Rattle.soqe_term.specs.declared.kinds.Kind.{Kind}
-use Rattle.soqe_term.specs.declared.kinds.Kind.TheVariants as kind
-use Rattle.soqe_term.specs.declared.kinds.NameKind.{NameKind}
-use Rattle.soqe_term.specs.declared.kinds.NameKind.TheVariants as numbering
-use Rattle.soqe_term.specs.Declarations.{Declaration, Found, numbering_of, lookup, name_of}
-use Rattle.soqe_term.proofs.Choices.{and_first, and_second}
-use Rattle.soqe_term.proofs.Declared.{name_of-lookup}
+use Rattle.soqe_signature.specs.declared.kinds.Kind.{Kind}
+use Rattle.soqe_signature.specs.declared.kinds.Kind.TheVariants as kind
+use Rattle.soqe_signature.specs.declared.kinds.NameKind.{NameKind}
+use Rattle.soqe_signature.specs.declared.kinds.NameKind.TheVariants as numbering
+use Rattle.soqe_signature.specs.Declarations.{Declaration, Found, numbering_of, lookup, name_of}
+use Rattle.soqe_number.proofs.Choices.{and_first, and_second}
+use Rattle.soqe_signature.proofs.Declared.{name_of-lookup}
 use Rattle.soqe_form.specs.Boxes.{boxes as form_boxes}
 use Rattle.soqe_form.specs.declared.form.PVar.{PVar}
 use Rattle.soqe_form.specs.declared.form.Pred.TheVariants.{Bound}

@@ -9,18 +9,18 @@ use Rattle.soqe_syntax.specs.declared.piece.Operator.{Operator}
 use Rattle.soqe_syntax.specs.declared.piece.Operator.TheVariants as operator
 use Rattle.soqe_syntax.specs.Grammar as tree
 use Rattle.soqe_syntax.specs.Grammar.{Tree, level, left, right}
-use Rattle.soqe_term.specs.declared.skolems.SkolemSig.{SkolemSig}
+use Rattle.soqe_signature.specs.declared.skolems.SkolemSig.{SkolemSig}
 use Rattle.soqe_term.specs.declared.term.Var.{Var}
 use Rattle.soqe_term.specs.declared.term.Term.{Term}
 use Rattle.soqe_term.specs.Sorting.{own_sort, sorted_term}
-use Rattle.soqe_term.specs.Declarations.{Declaration}
-use Rattle.soqe_term.proofs.Choices.{and_first, and_second}
+use Rattle.soqe_signature.specs.Declarations.{Declaration}
+use Rattle.soqe_number.proofs.Choices.{and_first, and_second}
 use Rattle.soqe_form.specs.Boxes.{boxes as form_boxes}
 use Rattle.soqe_form.specs.declared.form.Pred.TheVariants.{Bound}
 use Rattle.soqe_form.specs.declared.form.PVar.{PVar}
 use Rattle.soqe_form.specs.declared.form.Form as form
 use Rattle.soqe_form.specs.declared.form.Form.{Form, True, False, Equal, Atom, Not', And', Or', Imp', Iff', All', Ex', All2', Ex2', end_of-Form as end, more_of-Form as one}
-use Rattle.soqe_form.specs.Scope.{sorting_for}
+use Rattle.soqe_signature.specs.Scope.{sorting_for}
 use Rattle.soqe_form.specs.Sorted.{sorted}
 use Rattle.soqe_text.specs.Meanings.{found_in, form_names}
 use Rattle.soqe_text.specs.Uses.{num_of_found, num_of_by, differ}

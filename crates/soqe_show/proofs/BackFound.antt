@@ -4,17 +4,17 @@ use Rattle.std.specs.Fmt.{decimal}
 use Rattle.std.specs.Option.{option_or}
 use Rattle.std.proofs.lemmas.Bool.{ltb-true}
 use Rattle.std.proofs.lemmas.Option.{none-some, same_Some}
-use Rattle.soqe_term.specs.declared.kinds.Kind.{Kind}
-use Rattle.soqe_term.specs.declared.kinds.Kind.TheVariants as kind
-use Rattle.soqe_term.specs.declared.kinds.NameKind.{NameKind}
-use Rattle.soqe_term.specs.declared.kinds.NameKind.TheVariants as numbering
-use Rattle.soqe_term.specs.declared.skolems.SkolemSig.{SkolemSig}
+use Rattle.soqe_signature.specs.declared.kinds.Kind.{Kind}
+use Rattle.soqe_signature.specs.declared.kinds.Kind.TheVariants as kind
+use Rattle.soqe_signature.specs.declared.kinds.NameKind.{NameKind}
+use Rattle.soqe_signature.specs.declared.kinds.NameKind.TheVariants as numbering
+use Rattle.soqe_signature.specs.declared.skolems.SkolemSig.{SkolemSig}
 use Rattle.soqe_term.specs.declared.term.Sym.TheVariants.{Fun, Skolem}
 use Rattle.soqe_term.specs.Sorting.{FunSort}
-use Rattle.soqe_term.specs.SkolemSigs.{skolem_sort_of}
-use Rattle.soqe_term.specs.Declarations.{Declaration, Found, numbering_of, same_numbering, of_numbering, count_of, lookup, name_from, name_of, fun_sort_from, fun_sort_of, pred_sorts_from, pred_sorts_of, HasDistinctNames}
-use Rattle.soqe_term.proofs.Choices.{bool_cases}
-use Rattle.soqe_term.proofs.Declared.{lookup-name_of}
+use Rattle.soqe_signature.specs.SkolemSigs.{skolem_sort_of}
+use Rattle.soqe_signature.specs.Declarations.{Declaration, Found, numbering_of, same_numbering, of_numbering, count_of, lookup, name_from, name_of, fun_sort_from, fun_sort_of, pred_sorts_from, pred_sorts_of, HasDistinctNames}
+use Rattle.soqe_number.proofs.Choices.{bool_cases}
+use Rattle.soqe_signature.proofs.Declared.{lookup-name_of}
 use Rattle.soqe_form.specs.declared.form.Pred.TheVariants.{Decl, Bound}
 use Rattle.soqe_text.specs.Meanings.{skolem_found, found_by_tag, found_in, symbol_of, symbol_in}
 use Rattle.soqe_text.proofs.Entries.{fun_found, pred_found}

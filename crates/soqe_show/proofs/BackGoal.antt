@@ -5,8 +5,8 @@ use Rattle.std.specs.Option.{option_or}
 use Rattle.std.proofs.lemmas.Bool.{and_from}
 use Rattle.soqe_syntax.specs.Grammar.{Tree, Constant, Atom, Equation, Not, Bind, Bind2, Binary, Paren, Plain, Applied}
 use Rattle.soqe_term.specs.declared.term.Var.{Var}
-use Rattle.soqe_term.specs.Declarations.{Declaration, Found, lookup}
-use Rattle.soqe_term.proofs.Choices.{and_first, and_second}
+use Rattle.soqe_signature.specs.Declarations.{Declaration, Found, lookup}
+use Rattle.soqe_number.proofs.Choices.{and_first, and_second}
 use Rattle.soqe_form.specs.declared.form.PVar.{PVar}
 use Rattle.soqe_text.specs.Meanings.{found_by_tag, found_in}
 use Rattle.soqe_text.specs.Naming.{sort_of_found}

@@ -5,7 +5,7 @@ use Rattle.std.specs.Option.{option_or}
 use Rattle.soqe_syntax.specs.declared.piece.Span.{Span}
 use Rattle.soqe_syntax.specs.Grammar.{Term, Plain, Applied, Terms, One, More}
 use Rattle.soqe_syntax.specs.Pieces.{text_at}
-use Rattle.soqe_term.specs.Declarations.{Declaration, Found, lookup}
+use Rattle.soqe_signature.specs.Declarations.{Declaration, Found, lookup}
 use Rattle.soqe_text.specs.Naming.{is_usable, start_of, unknown_of_by, unknown_name_by, unknown_in_by, unknown_in_all_by, unknown_sort_by, sort_of_found, sort_number_by, sort_numbers_by}
 use Rattle.soqe_show.specs.Printed.{Text}
 use Rattle.soqe_show.specs.Placed.{texts_term, texts_terms, texts_sort}

@@ -2,7 +2,7 @@
 use Rattle.std.proofs.Common.{◌≡◌, ℕ, ◌≤◌, Bool, true, false, cond, nat_lt, List, refl, arith}
 use Rattle.soqe_syntax.specs.Grammar.{Tree, Constant, Atom, Equation, Not, Bind, Bind2, Binary, Paren, level, left, right, IsLevelled}
 use Rattle.soqe_syntax.specs.declared.piece.Operator.TheVariants as operator
-use Rattle.soqe_term.specs.Declarations.{Declaration}
+use Rattle.soqe_signature.specs.Declarations.{Declaration}
 use Rattle.soqe_form.specs.declared.form.Form.{Form, True, False, Equal, Atom as Atomic, Not', And', Or', Imp', Iff', All', Ex', All2', Ex2', end_of-Form as end, more_of-Form as one}
 use Rattle.soqe_show.specs.Printed.{Text}
 use Rattle.soqe_show.specs.Dress.{guard, negated, dress}

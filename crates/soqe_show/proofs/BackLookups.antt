@@ -4,14 +4,14 @@ use Rattle.std.proofs.lemmas.Option.{none-some, same_Some, cond_some}
 use Rattle.std.proofs.lemmas.Slice.Eq.{bytes_eq-Decides}
 use Rattle.std.specs.List.{list_all}
 use Rattle.std.specs.Str.{bytes_eq}
-use Rattle.soqe_lex.specs.Lexical.{is_ordinary}
+use Rattle.soqe_name.specs.Names.{is_ordinary}
 use Rattle.soqe_syntax.specs.Grammar.{Tree, Constant, Atom, Equation, Not, Bind, Bind2, Binary, Paren, Declared}
-use Rattle.soqe_term.specs.declared.kinds.Kind.{Kind}
-use Rattle.soqe_term.specs.declared.kinds.Kind.TheVariants as kind
-use Rattle.soqe_term.specs.declared.kinds.NameKind.{NameKind}
-use Rattle.soqe_term.specs.declared.kinds.NameKind.TheVariants as numbering
-use Rattle.soqe_term.specs.Declarations.{Declaration, Found, numbering_of, count_of, lookup, lookup_behind}
-use Rattle.soqe_term.proofs.Declared.{lookup-new}
+use Rattle.soqe_signature.specs.declared.kinds.Kind.{Kind}
+use Rattle.soqe_signature.specs.declared.kinds.Kind.TheVariants as kind
+use Rattle.soqe_signature.specs.declared.kinds.NameKind.{NameKind}
+use Rattle.soqe_signature.specs.declared.kinds.NameKind.TheVariants as numbering
+use Rattle.soqe_signature.specs.Declarations.{Declaration, Found, numbering_of, count_of, lookup, lookup_behind}
+use Rattle.soqe_signature.proofs.Declared.{lookup-new}
 use Rattle.soqe_text.specs.NewNames.{is_new, with_declared, Entered}
 use Rattle.soqe_text.specs.Naming.{entered_at, variable_place, predicate_place, variable_entered, predicate_entered}
 use Rattle.soqe_show.specs.Printed.{Text}

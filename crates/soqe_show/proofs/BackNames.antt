@@ -5,9 +5,9 @@ use Rattle.std.specs.Option.{option_or}
 use Rattle.soqe_syntax.specs.declared.piece.Span.{Span}
 use Rattle.soqe_syntax.specs.Grammar.{Tree, Constant, Atom, Equation, Not, Bind, Bind2, Binary, Paren, Declared, DeclaredSort, DeclaredFun, DeclaredPred, DeclaredVar}
 use Rattle.soqe_syntax.specs.Pieces.{text_at}
-use Rattle.soqe_term.specs.declared.kinds.Kind.{Kind}
-use Rattle.soqe_term.specs.declared.kinds.Kind.TheVariants as kind
-use Rattle.soqe_term.specs.Declarations.{Declaration, lookup}
+use Rattle.soqe_signature.specs.declared.kinds.Kind.{Kind}
+use Rattle.soqe_signature.specs.declared.kinds.Kind.TheVariants as kind
+use Rattle.soqe_signature.specs.Declarations.{Declaration, lookup}
 use Rattle.soqe_text.specs.NewNames.{is_new, with_declared, Entered}
 use Rattle.soqe_text.specs.Naming.{unless_refused, then_named, unknown_of, unknown_name, unknown_in, variable_entered, predicate_entered, or_refused, unknown_sort, variable_bound, predicate_bound, named, sort_number, name_declared, unknown_in_declared, kind_declared, named_declared, all_named_declared}
 use Rattle.soqe_show.specs.Printed.{Text}

@@ -2,7 +2,7 @@
 -- an equation, and no sort of a binder where it is `obj`. The change keeps what is declared, the uses and the formula.
 use Rattle.std.proofs.Common.{◌≡◌, ℕ, Bool, true, false, cond, eqb, nat_lt, List, ◌∷◌, map, Option, Some, None, set, refl, ◌∙◌, ap, sym, subst, eqb-true}
 use Rattle.soqe_syntax.specs.Grammar.{Tree, Constant, Atom, Equation, Not, Bind, Bind2, Binary, Paren, level, left, right}
-use Rattle.soqe_term.specs.Declarations.{Declaration}
+use Rattle.soqe_signature.specs.Declarations.{Declaration}
 use Rattle.soqe_form.specs.declared.form.Form as form
 use Rattle.soqe_text.specs.Uses.{num_of}
 use Rattle.soqe_text.specs.Numbering.{over_elements, joined_by, quantified_over}

@@ -5,7 +5,7 @@ use Rattle.soqe_syntax.specs.Grammar.{Term, Plain, Applied, Terms, One, More, Tr
 use Rattle.soqe_syntax.specs.Pieces.{text_at}
 use Rattle.soqe_term.specs.declared.term.Term as term
 use Rattle.soqe_term.specs.declared.term.Terms as terms
-use Rattle.soqe_term.specs.Declarations.{Declaration}
+use Rattle.soqe_signature.specs.Declarations.{Declaration}
 use Rattle.soqe_form.specs.declared.form.Form as form
 use Rattle.soqe_form.specs.Constants.{constant}
 use Rattle.soqe_text.specs.Meanings.{Names, problem_names}

@@ -4,9 +4,9 @@ use Rattle.std.specs.List.{list_all}
 use Rattle.std.specs.Option.{option_or}
 use Rattle.soqe_syntax.specs.declared.piece.Span.{Span}
 use Rattle.soqe_syntax.specs.Grammar.{Tree, Constant, Atom, Equation, Not, Bind, Bind2, Binary, Paren}
-use Rattle.soqe_term.specs.declared.kinds.Kind.{Kind}
-use Rattle.soqe_term.specs.declared.kinds.Kind.TheVariants as kind
-use Rattle.soqe_term.specs.Declarations.{Found}
+use Rattle.soqe_signature.specs.declared.kinds.Kind.{Kind}
+use Rattle.soqe_signature.specs.declared.kinds.Kind.TheVariants as kind
+use Rattle.soqe_signature.specs.Declarations.{Found}
 use Rattle.soqe_text.specs.Naming.{unknown_in_by, unknown_of_by, unknown_sort_by, variable_place, predicate_place}
 use Rattle.soqe_text.specs.SpelledForm.{refused_binder, refused}
 use Rattle.soqe_show.specs.Printed.{Text}

@@ -6,16 +6,16 @@ use Rattle.std.specs.Str.Parse.{digits_value}
 use Rattle.std.proofs.lemmas.Bool.{lt-ltb}
 use Rattle.std.proofs.lemmas.Option.{none-some, same_Some, slice_get_within}
 use Rattle.soqe_lex.specs.Lexical.{is_number}
-use Rattle.soqe_term.specs.declared.kinds.Kind.{Kind}
-use Rattle.soqe_term.specs.declared.kinds.Kind.TheVariants as kind
-use Rattle.soqe_term.specs.declared.kinds.NameKind.{NameKind}
-use Rattle.soqe_term.specs.declared.kinds.NameKind.TheVariants as numbering
-use Rattle.soqe_term.specs.declared.skolems.SkolemSig.{SkolemSig}
+use Rattle.soqe_signature.specs.declared.kinds.Kind.{Kind}
+use Rattle.soqe_signature.specs.declared.kinds.Kind.TheVariants as kind
+use Rattle.soqe_signature.specs.declared.kinds.NameKind.{NameKind}
+use Rattle.soqe_signature.specs.declared.kinds.NameKind.TheVariants as numbering
+use Rattle.soqe_signature.specs.declared.skolems.SkolemSig.{SkolemSig}
 use Rattle.soqe_term.specs.Sorting.{FunSort}
-use Rattle.soqe_term.specs.SkolemSigs.{skolem_sort_of}
-use Rattle.soqe_term.specs.Declarations.{Declaration, Found, numbering_of, of_numbering, count_of, lookup, name_from, name_of}
-use Rattle.soqe_term.proofs.Choices.{and_second}
-use Rattle.soqe_term.proofs.Declared.{name_of-lookup, count_of-le}
+use Rattle.soqe_signature.specs.SkolemSigs.{skolem_sort_of}
+use Rattle.soqe_signature.specs.Declarations.{Declaration, Found, numbering_of, of_numbering, count_of, lookup, name_from, name_of}
+use Rattle.soqe_number.proofs.Choices.{and_second}
+use Rattle.soqe_signature.proofs.Declared.{name_of-lookup, count_of-le}
 use Rattle.soqe_text.specs.Meanings.{unnamed, skolem_found, tag_found, tagged_found, found_by_tag, found_in}
 use Rattle.soqe_text.specs.Naming.{variable_place, predicate_place, sort_of_found}
 use Rattle.soqe_text.specs.Uses.{is_no_sort, num_of_found}

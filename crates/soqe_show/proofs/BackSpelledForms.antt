@@ -11,10 +11,10 @@ use Rattle.soqe_syntax.specs.declared.piece.Operator.{Operator}
 use Rattle.soqe_syntax.specs.declared.piece.Operator.TheVariants as operator
 use Rattle.soqe_syntax.specs.Grammar.{Tree, Plain, Applied, Constant, Atom, Equation, Not, Bind, Bind2, Binary, Paren}
 use Rattle.soqe_syntax.specs.Pieces.{text_at}
-use Rattle.soqe_term.specs.declared.skolems.SkolemSig.{SkolemSig}
+use Rattle.soqe_signature.specs.declared.skolems.SkolemSig.{SkolemSig}
 use Rattle.soqe_term.specs.declared.term.Var.{Var}
 use Rattle.soqe_term.specs.declared.term.Term as term
-use Rattle.soqe_term.specs.Declarations.{Declaration}
+use Rattle.soqe_signature.specs.Declarations.{Declaration}
 use Rattle.soqe_form.specs.Boxes.{boxes as form_boxes}
 use Rattle.soqe_form.specs.Constants.{constant}
 use Rattle.soqe_form.specs.declared.form.PVar.{PVar}

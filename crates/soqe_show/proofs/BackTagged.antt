@@ -10,10 +10,10 @@ use Rattle.std.proofs.lemmas.Fmt.{decimal_is_IsNumeral, decimal_digit, first_dec
 use Rattle.soqe_lex.specs.Lexical.{has_no_leading_zero, is_number, is_tag, is_tagged, kind_of}
 use Rattle.soqe_lex.specs.declared.token.TokenKind.TheVariants.{Tagged}
 use Rattle.soqe_lex.proofs.Numbers.{other_first}
-use Rattle.soqe_term.specs.declared.kinds.Kind.TheVariants as kind
-use Rattle.soqe_term.specs.declared.kinds.NameKind.TheVariants as numbering
-use Rattle.soqe_term.specs.declared.skolems.SkolemSig.{SkolemSig}
-use Rattle.soqe_term.specs.Declarations.{Declaration, count_of}
+use Rattle.soqe_signature.specs.declared.kinds.Kind.TheVariants as kind
+use Rattle.soqe_signature.specs.declared.kinds.NameKind.TheVariants as numbering
+use Rattle.soqe_signature.specs.declared.skolems.SkolemSig.{SkolemSig}
+use Rattle.soqe_signature.specs.Declarations.{Declaration, count_of}
 use Rattle.soqe_text.specs.Meanings.{unnamed, tag_found, tagged_found}
 use Rattle.soqe_show.specs.Printed.{Text}
 use Rattle.soqe_show.specs.Placed.{IsWord}

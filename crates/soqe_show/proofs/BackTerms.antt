@@ -5,22 +5,22 @@ use Rattle.std.specs.List.{list_any}
 use Rattle.std.proofs.lemmas.Bool.{and_from, cond-true}
 use Rattle.soqe_syntax.specs.Grammar as tree
 use Rattle.soqe_term.specs.Boxes.{boxes as term_boxes}
-use Rattle.soqe_term.specs.declared.kinds.Kind.{Kind}
-use Rattle.soqe_term.specs.declared.kinds.Kind.TheVariants as kind
-use Rattle.soqe_term.specs.declared.skolems.SkolemSig.{SkolemSig}
+use Rattle.soqe_signature.specs.declared.kinds.Kind.{Kind}
+use Rattle.soqe_signature.specs.declared.kinds.Kind.TheVariants as kind
+use Rattle.soqe_signature.specs.declared.skolems.SkolemSig.{SkolemSig}
 use Rattle.soqe_term.specs.declared.term.Sym.{Sym}
 use Rattle.soqe_term.specs.declared.term.Sym.TheVariants.{Fun, Skolem}
 use Rattle.soqe_term.specs.declared.term.Var.{Var}
 use Rattle.soqe_term.specs.declared.term.Term.{Term, Var as var, App}
 use Rattle.soqe_term.specs.declared.term.Terms.{Terms, Nil, Cons, Cons', end_of-Term as end-t, more_of-Term as one-t, end_of-Terms as ends-t, more_of-Terms as ones-t}
 use Rattle.soqe_term.specs.Sorting.{FunSort, sym_sort, is_sort, with_sorts, with_fun, own_sort, sorted_term, sorted_terms}
-use Rattle.soqe_term.specs.Declarations.{Declaration, Found}
-use Rattle.soqe_term.proofs.Choices.{and_first, and_second}
+use Rattle.soqe_signature.specs.Declarations.{Declaration, Found}
+use Rattle.soqe_number.proofs.Choices.{and_first, and_second}
 use Rattle.soqe_form.specs.declared.form.Pred.{Pred}
 use Rattle.soqe_form.specs.declared.form.Pred.TheVariants.{Decl, Bound}
 use Rattle.soqe_form.specs.declared.form.PVar.{PVar}
 use Rattle.soqe_form.specs.declared.form.Form.{Form, Atom}
-use Rattle.soqe_form.specs.Scope.{sort_among, sorts_among, sorting_for}
+use Rattle.soqe_signature.specs.Scope.{sort_among, sorts_among, sorting_for}
 use Rattle.soqe_form.specs.Sorted.{pred_sorts}
 use Rattle.soqe_text.specs.Meanings.{found_in, symbol_in, form_names}
 use Rattle.soqe_text.specs.Naming.{is_usable}

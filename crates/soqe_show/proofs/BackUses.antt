@@ -5,7 +5,7 @@ use Rattle.std.specs.Option.{option_or}
 use Rattle.soqe_syntax.specs.declared.piece.Span.{Span}
 use Rattle.soqe_syntax.specs.Grammar.{Term, Plain, Applied, Terms, One, More, Tree, Constant, Atom, Equation, Not, Bind, Bind2, Binary, Paren}
 use Rattle.soqe_syntax.specs.Pieces.{text_at}
-use Rattle.soqe_term.specs.Declarations.{Declaration, Found}
+use Rattle.soqe_signature.specs.Declarations.{Declaration, Found}
 use Rattle.soqe_text.specs.Meanings.{Names, problem_names}
 use Rattle.soqe_text.specs.Naming.{start_of, sort_numbers_by}
 use Rattle.soqe_text.specs.Uses.{head, num_of_by, is_no_sort, no_sort_in_by, no_sort_by, sort_found, arguments_found, predicate_found, sort_of_term_by, behind_fitting, then_behind, behind_by, is_none_left, is_used_right_by, wrong_head_by, wrong_term_by, wrong_in_by, wrong_in_all_by, wrong_in_arguments_by, wrong_in_atom_by, differ, wrong_in_equation_by, binder_sort_by, wrong_sort_by, wrong_by}

@@ -3,11 +3,12 @@ use Rattle.std.proofs.Common.{◌≡◌, ℕ, Bool, true, false, cond, eqb, not,
 use Rattle.std.specs.List.{list_all}
 use Rattle.soqe_lex.specs.declared.token.TokenKind.{TokenKind}
 use Rattle.soqe_lex.specs.declared.token.TokenKind.TheVariants.{Ordinary, Keyword}
-use Rattle.soqe_lex.specs.Lexical.{is_word, is_keyword, is_ordinary, kind_of}
+use Rattle.soqe_lex.specs.Lexical.{kind_of}
+use Rattle.soqe_name.specs.Names.{is_word, is_keyword, is_ordinary}
 use Rattle.std.specs.Char.{is_ascii_alphabetic}
 use Rattle.soqe_syntax.specs.Grammar.{Term, Plain, Applied, Terms, One, More, Tree, Constant, Atom, Equation, Not, Bind, Bind2, Binary, Paren, Declared, DeclaredSort, DeclaredFun, DeclaredPred, DeclaredVar, level, left, right}
-use Rattle.soqe_term.proofs.Choices.{and_first, and_second}
-use Rattle.soqe_term.specs.Declarations.{Declaration, Found, lookup}
+use Rattle.soqe_number.proofs.Choices.{and_first, and_second}
+use Rattle.soqe_signature.specs.Declarations.{Declaration, Found, lookup}
 use Rattle.soqe_text.specs.Uses.{num_of, is_no_sort, arguments_by, predicate_by}
 use Rattle.soqe_show.specs.Printed.{Text}
 use Rattle.soqe_show.specs.Dress.{guard, negated}

@@ -1,7 +1,7 @@
 -- Declarations, each on its line, by their places.
 use Rattle.std.proofs.Common.{◌≡◌, ℕ, zero, suc, ◌+◌, ◌++◌, List, [], ◌∷◌, drop, slice_get, refl, ◌∙◌, ap, sym, append_assoc, add-one}
 use Rattle.soqe_syntax.specs.Grammar as tree
-use Rattle.soqe_term.specs.Declarations.{Declaration}
+use Rattle.soqe_signature.specs.Declarations.{Declaration}
 use Rattle.soqe_show.specs.Printed.{Text, declared_text, all_declared_text}
 use Rattle.soqe_show.specs.Dress.{dress_declared, dress_all_declared, behind_obj}
 use Rattle.soqe_show.specs.Lines.{line_at}

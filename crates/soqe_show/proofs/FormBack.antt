@@ -3,9 +3,9 @@
 use Rattle.std.proofs.Common.{◌≡◌, ℕ, List, ◌∙◌, sym, subst}
 use Rattle.soqe_syntax.specs.declared.piece.Span.{Span}
 use Rattle.soqe_syntax.specs.Grammar as syntax
-use Rattle.soqe_term.specs.declared.skolems.SkolemSig.{SkolemSig}
+use Rattle.soqe_signature.specs.declared.skolems.SkolemSig.{SkolemSig}
 use Rattle.soqe_term.specs.declared.term.Var.{Var}
-use Rattle.soqe_term.specs.Declarations.{Declaration}
+use Rattle.soqe_signature.specs.Declarations.{Declaration}
 use Rattle.soqe_form.specs.declared.form.PVar.{PVar}
 use Rattle.soqe_form.specs.declared.form.Form.{Form}
 use Rattle.soqe_parse.specs.Formulas.{HasForm}

@@ -3,7 +3,7 @@ use Rattle.std.proofs.Common.{◌≡◌, ◌++◌, true, false, List, codes, ref
 use Rattle.soqe_syntax.specs.Grammar.{Tree}
 use Rattle.soqe_syntax.specs.Grammar as tree
 use Rattle.soqe_term.specs.declared.term.Term.{Term}
-use Rattle.soqe_term.specs.Declarations.{Declaration}
+use Rattle.soqe_signature.specs.Declarations.{Declaration}
 use Rattle.soqe_form.specs.declared.form.Form.{Form, True, False, Equal, Atom, Not', And', Or', Imp', Iff', All', Ex', All2', Ex2', end_of-Form as end, more_of-Form as one}
 use Rattle.soqe_show.specs.Printed.{Text, tree_text}
 use Rattle.soqe_show.specs.Dress.{dress, guard, negated}

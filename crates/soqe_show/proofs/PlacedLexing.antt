@@ -13,7 +13,8 @@ use Rattle.std.specs.Str.Parse.{digits_value}
 use Rattle.soqe_lex.specs.declared.token.Token.{Token}
 use Rattle.soqe_lex.specs.declared.token.TokenKind.{TokenKind}
 use Rattle.soqe_lex.specs.declared.token.TokenKind.TheVariants.{Tagged, Number}
-use Rattle.soqe_lex.specs.Lexical.{is_word, has_no_leading_zero, is_number, is_tag, is_tagged, is_blank, kind_from, kind_of, IsLongest, Lexed, end, blank, token}
+use Rattle.soqe_lex.specs.Lexical.{has_no_leading_zero, is_number, is_tag, is_tagged, is_blank, kind_from, kind_of, IsLongest, Lexed, end, blank, token}
+use Rattle.soqe_name.specs.Names.{is_word}
 use Rattle.soqe_syntax.specs.declared.piece.Piece.{Piece}
 use Rattle.soqe_syntax.specs.Pieces.{piece_of, piece_with}
 use Rattle.soqe_show.specs.Printed.{Text}

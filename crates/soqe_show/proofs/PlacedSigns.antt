@@ -4,7 +4,8 @@ use Rattle.std.specs.Char.{is_ascii_digit, is_ascii_alphabetic}
 use Rattle.std.proofs.lemmas.Bool.{and_left, or_from, not-true, not_from_false, false_from_ne_true, eqb-true, cond-true, cond-false}
 use Rattle.soqe_lex.specs.declared.token.TokenKind.{TokenKind}
 use Rattle.soqe_lex.specs.declared.token.TokenKind.TheVariants.{Ordinary, Keyword, Tagged, Mark}
-use Rattle.soqe_lex.specs.Lexical.{is_word, is_keyword, is_single, is_pair, is_triple, is_mark, kind_from, kind_of}
+use Rattle.soqe_lex.specs.Lexical.{is_single, is_pair, is_triple, is_mark, kind_from, kind_of}
+use Rattle.soqe_name.specs.Names.{is_word, is_keyword}
 use Rattle.soqe_syntax.specs.declared.piece.Quantifier.{Quantifier}
 use Rattle.soqe_syntax.specs.declared.piece.Quantifier.TheVariants as quantifier
 use Rattle.soqe_syntax.specs.declared.piece.Operator.{Operator}

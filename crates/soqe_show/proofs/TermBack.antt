@@ -1,7 +1,7 @@
 -- The printed text of a term stands for the term: the text of an equation is that of its sides with ` = ` between.
 use Rattle.std.proofs.Common.{◌≡◌, ℕ, List, ◌++◌, codes, ap}
 use Rattle.soqe_term.specs.declared.term.Term.{Term}
-use Rattle.soqe_term.specs.Declarations.{Declaration}
+use Rattle.soqe_signature.specs.Declarations.{Declaration}
 use Rattle.soqe_form.specs.declared.form.Form.{Equal}
 use Rattle.soqe_show.specs.Dress.{dress_term}
 use Rattle.soqe_show.specs.Printed.{term_text}

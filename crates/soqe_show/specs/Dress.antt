@@ -9,9 +9,9 @@ use Rattle.soqe_term.specs.declared.term.Sym.{Sym}
 use Rattle.soqe_term.specs.declared.term.Sym.TheVariants.{Fun, Skolem}
 use Rattle.soqe_term.specs.declared.term.Term.{Term, Var as var, App}
 use Rattle.soqe_term.specs.declared.term.Terms.{Terms, Nil, Cons', end_of-Term as end-t, more_of-Term as one-t, end_of-Terms as ends-t, more_of-Terms as ones-t}
-use Rattle.soqe_term.specs.declared.kinds.Kind.TheVariants as kind
-use Rattle.soqe_term.specs.declared.kinds.NameKind.TheVariants as numbering
-use Rattle.soqe_term.specs.Declarations.{Declaration, name_of}
+use Rattle.soqe_signature.specs.declared.kinds.Kind.TheVariants as kind
+use Rattle.soqe_signature.specs.declared.kinds.NameKind.TheVariants as numbering
+use Rattle.soqe_signature.specs.Declarations.{Declaration, name_of}
 use Rattle.soqe_form.specs.declared.form.Pred.{Pred}
 use Rattle.soqe_form.specs.declared.form.Pred.TheVariants.{Decl, Bound}
 use Rattle.soqe_form.specs.declared.form.Form.{Form, True, False, Equal, Atom, Not', And', Or', Imp', Iff', All', Ex', All2', Ex2', end_of-Form as end, more_of-Form as one}

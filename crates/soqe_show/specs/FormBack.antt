@@ -1,17 +1,17 @@
 -- What is printed for a formula by itself is read back.
 use Rattle.std.specs.Prelude.{◌≡◌, ◌<◌, ◌^◌, ℕ, Bool, true, ◌&&◌, nat_lt, List, length}
 use Rattle.std.specs.List.{list_all}
-use Rattle.soqe_lex.specs.Lexical.{is_ordinary}
+use Rattle.soqe_name.specs.Names.{is_ordinary}
 use Rattle.soqe_syntax.specs.declared.piece.Span.{Span}
 use Rattle.soqe_syntax.specs.Grammar as syntax
 use Rattle.soqe_syntax.specs.Grammar.{IsLevelled}
-use Rattle.soqe_term.specs.declared.kinds.NameKind.TheVariants as numbering
-use Rattle.soqe_term.specs.declared.skolems.SkolemSig.{SkolemSig}
+use Rattle.soqe_signature.specs.declared.kinds.NameKind.TheVariants as numbering
+use Rattle.soqe_signature.specs.declared.skolems.SkolemSig.{SkolemSig}
 use Rattle.soqe_term.specs.declared.term.Var.{Var}
-use Rattle.soqe_term.specs.Declarations.{Declaration, HasDistinctNames, count_of}
+use Rattle.soqe_signature.specs.Declarations.{Declaration, HasDistinctNames, count_of}
 use Rattle.soqe_form.specs.declared.form.PVar.{PVar}
 use Rattle.soqe_form.specs.declared.form.Form.{Form, True, False, Equal, Atom, Not', And', Or', Imp', Iff', All', Ex', All2', Ex2', end_of-Form as end, more_of-Form as one}
-use Rattle.soqe_form.specs.Scope.{sorting_for}
+use Rattle.soqe_signature.specs.Scope.{sorting_for}
 use Rattle.soqe_form.specs.Sorted.{sorted}
 use Rattle.soqe_parse.specs.Formulas.{HasForm}
 use Rattle.soqe_text.specs.declared.problem.Problem.TheVariants as problem

@@ -1,7 +1,7 @@
 -- The same texts, as the printer writes them: arguments from the first on, and declarations by their places.
 use Rattle.std.specs.Prelude.{List, [], ◌++◌, Option, Some, None, codes}
 use Rattle.soqe_term.specs.declared.term.Terms.{Terms, Nil, Cons', end_of-Term as end-t, more_of-Term as one-t, end_of-Terms as ends-t, more_of-Terms as ones-t}
-use Rattle.soqe_term.specs.Declarations.{Declaration}
+use Rattle.soqe_signature.specs.Declarations.{Declaration}
 use Rattle.soqe_show.specs.Printed.{Text, term_text, all_declared_text}
 use Rattle.soqe_show.specs.Dress.{dress_term, dress_declared}
 

@@ -3,7 +3,7 @@
 
 ghost use Rattle.std.specs.Prelude.{◌≡◌, ◌++◌, List, map, codes, string_bytes, OnOk};
 ghost use Rattle.soqe_syntax.specs.Grammar.{level};
-ghost use Rattle.soqe_term.specs.Declarations.{Declaration};
+ghost use Rattle.soqe_signature.specs.Declarations.{Declaration};
 ghost use Rattle.soqe_form.specs.declared.form.Pred.TheVariants as pred;
 ghost use Rattle.soqe_show.specs.Dress.{dress, dress_term, form_text, guard, negated, var_name, sort_name, pred_name, written_sort};
 ghost use Rattle.soqe_show.specs.Printed.{term_text, tree_text, sort_text, sorts_text};
@@ -12,7 +12,9 @@ ghost use Rattle.soqe_show.specs.Lines.{args_text};
 use crate::names::{write_binder_sort, write_pred, write_sorts, write_var};
 use crate::terms::{write_args, write_term};
 use soqe_form::{Form, PVar, Pred};
-use soqe_term::{Mem, Signature, Term, Terms, Var};
+use soqe_number::Mem;
+use soqe_signature::Signature;
+use soqe_term::{Term, Terms, Var};
 use sqlite_items::Boxed;
 
 /// How tight the printed formula is.

@@ -1,12 +1,14 @@
 //! Numbers, names and sorts. Each function writes behind what is there, and fails where memory runs out.
 ghost use Rattle.std.specs.Prelude.{◌≡◌, ◌++◌, map, decimal, codes, string_bytes, OnOk};
-ghost use Rattle.soqe_term.specs.Declarations.{name_of};
+ghost use Rattle.soqe_signature.specs.Declarations.{name_of};
 ghost use Rattle.soqe_show.specs.Dress.{name_or, sort_name, var_name, sym_name, pred_name, written_sort};
 ghost use Rattle.soqe_show.specs.Printed.{sort_text, further_text, sorts_text};
 
 use itoa::Buffer;
 use soqe_form::Pred;
-use soqe_term::{Mem, NameKind, Signature, Sym};
+use soqe_number::Mem;
+use soqe_signature::{NameKind, Signature};
+use soqe_term::Sym;
 
 /// Writes a number in decimal.
 pub fn write_number(out: &mut String, number: u64) -> Mem<()>

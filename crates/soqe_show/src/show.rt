@@ -10,7 +10,9 @@ use crate::formulas::write_form;
 use crate::problems::write_problem;
 use crate::terms::write_term;
 use soqe_form::Form;
-use soqe_term::{Mem, Signature, Term};
+use soqe_number::Mem;
+use soqe_signature::Signature;
+use soqe_term::Term;
 use soqe_text::Problem;
 use std::alloc::Global;
 

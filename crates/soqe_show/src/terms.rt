@@ -7,7 +7,9 @@ ghost use Rattle.soqe_show.specs.Printed.{term_text};
 ghost use Rattle.soqe_show.specs.Lines.{args_text, further_args_text};
 
 use crate::names::{write_sym, write_var};
-use soqe_term::{Mem, Signature, Term, Terms};
+use soqe_number::Mem;
+use soqe_signature::Signature;
+use soqe_term::{Term, Terms};
 
 /// Writes a term. It fails where memory runs out, and recurses as deep as the term.
 #[cycle(term)]

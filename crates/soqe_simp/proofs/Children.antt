@@ -1,7 +1,7 @@
 -- What is done with, and what holds of, the children of a formula.
 use Rattle.std.proofs.Common.{◌≡◌, ◌<◌, true, ◌&&◌, refl, arith}
 use Rattle.std.proofs.lemmas.Bool.{and_from}
-use Rattle.soqe_term.proofs.Choices.{and_first, and_second}
+use Rattle.soqe_number.proofs.Choices.{and_first, and_second}
 use Rattle.soqe_form.specs.declared.form.Form.{Form, True, False, Equal, Atom, Not, Not', And, And', Or, Or', Imp, Imp', Iff, Iff', All, All', Ex, Ex', All2, All2', Ex2, Ex2', end_of-Form as end, more_of-Form as one}
 use Rattle.soqe_form.specs.Boxes.{boxes}
 use Rattle.soqe_simp.specs.Weight.{weight}

@@ -6,7 +6,7 @@ use Rattle.soqe_term.specs.declared.term.Term.{Term, Var as var}
 use Rattle.soqe_term.specs.declared.term.Terms.{Terms}
 use Rattle.soqe_term.specs.Subst.{replaced, all_replaced}
 use Rattle.soqe_term.specs.Bindings.{bound_in, all_bound_in}
-use Rattle.soqe_term.proofs.Choices.{by_cases}
+use Rattle.soqe_number.proofs.Choices.{by_cases}
 use Rattle.soqe_form.specs.declared.form.Pred.{Pred}
 use Rattle.soqe_form.specs.declared.form.PVar.{PVar}
 use Rattle.soqe_form.specs.declared.form.Form.{Form, True, False, Equal, Atom, Not, Not', And, And', Or, Or', Imp, Imp', Iff, Iff', All, All', Ex, Ex', All2, All2', Ex2, Ex2', end_of-Form as end, more_of-Form as one}

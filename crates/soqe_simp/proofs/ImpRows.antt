@@ -1,7 +1,7 @@
 -- The rows for A -> B.
 use Rattle.std.proofs.Common.{◌≡◌, Bool, true, false, not, ◌||◌, ◌&&◌, Some, refl, sym, ◌∙◌, subst, arith}
 use Rattle.std.proofs.lemmas.Bool.{or_left}
-use Rattle.soqe_term.proofs.Choices.{and_first}
+use Rattle.soqe_number.proofs.Choices.{and_first}
 use Rattle.soqe_form.specs.declared.form.Form.{Form, True, False, Not, And, Imp}
 use Rattle.soqe_form.specs.Boxes.{boxes}
 use Rattle.soqe_form.specs.Truth.{truth}

@@ -4,13 +4,13 @@ use Rattle.std.specs.Prelude.{slice_get}
 use Rattle.std.specs.Option.{option_map}
 use Rattle.std.proofs.lemmas.Bool.{eqb-true, eqb-false}
 use Rattle.std.proofs.lemmas.Option.{slice_get_within}
-use Rattle.soqe_term.specs.World.{changed}
+use Rattle.soqe_number.specs.Updates.{changed}
 use Rattle.soqe_term.specs.declared.term.Var.{Var}
-use Rattle.soqe_term.proofs.Choices.{by_cases, bool_cases}
+use Rattle.soqe_number.proofs.Choices.{by_cases, bool_cases}
 use Rattle.soqe_term.proofs.Worlds.{changed-at}
-use Rattle.soqe_term.proofs.Declared.{slice_get-append, slice_get-last}
-use Rattle.soqe_form.specs.Counts.{counted}
-use Rattle.soqe_form.specs.Marks.{marked, Adds}
+use Rattle.soqe_number.proofs.Slices.{slice_get-append, slice_get-last}
+use Rattle.soqe_number.specs.Counts.{counted}
+use Rattle.soqe_number.specs.Marks.{marked, Adds}
 use Rattle.soqe_form.specs.Free.{free}
 use Rattle.soqe_form.specs.declared.form.Form.{Form, All, Ex}
 use Rattle.soqe_form.specs.Boxes.{boxes}

@@ -2,7 +2,7 @@
 use Rattle.std.proofs.Common.{true, false, Some, refl, subst, arith}
 use Rattle.soqe_term.specs.Value.{value}
 use Rattle.soqe_term.specs.Equal.{equal_terms}
-use Rattle.soqe_term.proofs.Choices.{not_twice}
+use Rattle.soqe_number.proofs.Choices.{not_twice}
 use Rattle.soqe_term.proofs.EqualTerms.{equal_terms-same}
 use Rattle.soqe_term.proofs.Worlds.{eqb-self}
 use Rattle.soqe_form.specs.declared.form.Form.{Form, True, False, Equal, Not}

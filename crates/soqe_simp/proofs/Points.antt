@@ -1,9 +1,9 @@
 -- Quantifiers over tests of a simple kind: a test that always gives one answer, and one that is decided off one point.
 use Rattle.std.proofs.Common.{◌≡◌, ℕ, zero, suc, ◌<◌, Bool, true, false, eqb, ◌||◌, ◌&&◌, List, [], ◌∷◌, refl, sym, ◌∙◌, subst}
 use Rattle.std.proofs.lemmas.Bool.{eqb-true, both_ways, or_from}
-use Rattle.soqe_term.specs.Finite.{every, some, every_list, some_list}
-use Rattle.soqe_term.proofs.Choices.{bool_cases, same_test}
-use Rattle.soqe_term.proofs.Enumerations.{found, finds, every-at, every-from}
+use Rattle.soqe_number.specs.Finite.{every, some, every_list, some_list}
+use Rattle.soqe_number.proofs.Choices.{bool_cases, same_test}
+use Rattle.soqe_number.proofs.Enumerations.{found, finds, every-at, every-from}
 
 -- what holds of a point, and of all numbers but the point, holds of each number
 pub at-or-off : (P : ℕ → Type 0) (a b : ℕ) → P a → (eqb b a ≡ false → P b) → P b

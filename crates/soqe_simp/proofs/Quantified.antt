@@ -2,7 +2,7 @@
 use Rattle.std.proofs.Common.{◌≡◌, ℕ, ◌+◌, ◌≤◌, Bool, true, false, cond, eqb, not, List, [], ◌∷◌, ◌++◌, Some, None, refl, sym, ◌∙◌, ap, subst, arith}
 use Rattle.std.specs.Option.{option_map}
 use Rattle.soqe_term.specs.declared.term.Var.{Var}
-use Rattle.soqe_term.proofs.Choices.{by_cases}
+use Rattle.soqe_number.proofs.Choices.{by_cases}
 use Rattle.soqe_form.specs.declared.form.Form.{Form, All, All', Ex, Ex', end_of-Form as end, more_of-Form as one}
 use Rattle.soqe_form.specs.Boxes.{boxes}
 use Rattle.soqe_form.specs.Free.{free}

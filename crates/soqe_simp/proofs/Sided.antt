@@ -3,15 +3,15 @@
 use Rattle.std.proofs.Common.{◌≡◌, ℕ, ◌<◌, Bool, true, false, cond, eqb, nat_lt, not, ◌&&◌, ◌||◌, List, [], ◌∷◌, Option, None, refl, sym, ◌∙◌, ap, subst}
 use Rattle.std.specs.Option.{option_map}
 use Rattle.std.proofs.lemmas.Bool.{eqb-true, eq-eqb, or_left, ltb-true}
-use Rattle.soqe_term.specs.World.{changed}
+use Rattle.soqe_number.specs.Updates.{changed}
 use Rattle.soqe_term.specs.Occurs.{occurs, occurs_any}
-use Rattle.soqe_term.specs.Unused.{member}
+use Rattle.soqe_number.specs.Unused.{member}
 use Rattle.soqe_term.specs.Equal.{equal_terms}
 use Rattle.soqe_term.specs.Sorting.{own_sort}
 use Rattle.soqe_term.specs.declared.term.Var.{Var}
 use Rattle.soqe_term.specs.declared.term.Term.{Term, Var as var, App}
 use Rattle.soqe_term.specs.declared.term.Terms.{Terms, Nil, Cons', end_of-Term as end-t, more_of-Term as one-t, end_of-Terms as ends-t, more_of-Terms as ones-t}
-use Rattle.soqe_term.proofs.Choices.{bool_cases, and_first, and_fails, or_none_first, or_none_second, or_holds}
+use Rattle.soqe_number.proofs.Choices.{bool_cases, and_first, and_fails, or_none_first, or_none_second, or_holds}
 use Rattle.soqe_form.specs.declared.form.Form.{Form, True, False, Equal, Atom, Not, Not', And, And', Or', Imp, Imp', Iff', All, All', Ex, Ex', All2', Ex2', end_of-Form as end, more_of-Form as one}
 use Rattle.soqe_form.specs.Boxes.{boxes}
 use Rattle.soqe_form.specs.Free.{free}

@@ -3,18 +3,19 @@ use Rattle.std.proofs.Common.{◌≡◌, ℕ, ◌<◌, ◌≤◌, Bool, true, fa
 use Rattle.std.proofs.lemmas.Bool.{eqb-true, and_right, or_left, or_right}
 use Rattle.soqe_term.specs.declared.term.Var.{Var}
 use Rattle.soqe_term.specs.declared.term.Term.{Term, Var as var}
-use Rattle.soqe_term.specs.World.{World, changed, with_var}
+use Rattle.soqe_term.specs.World.{World, with_var}
+use Rattle.soqe_number.specs.Updates.{changed}
 use Rattle.soqe_term.specs.Value.{value}
 use Rattle.soqe_term.specs.Occurs.{occurs}
-use Rattle.soqe_term.specs.Unused.{member}
+use Rattle.soqe_number.specs.Unused.{member}
 use Rattle.soqe_term.specs.Equal.{equal_terms}
-use Rattle.soqe_term.specs.Finite.{every, some}
+use Rattle.soqe_number.specs.Finite.{every, some}
 use Rattle.soqe_term.specs.Sorting.{Sorting, over_var, own_sort, sorted_term}
-use Rattle.soqe_term.proofs.Choices.{and_first, and_second, or_none_first, or_none_second}
+use Rattle.soqe_number.proofs.Choices.{and_first, and_second, or_none_first, or_none_second}
 use Rattle.soqe_term.proofs.Worlds.{eqb-self, changed-off, agree_changed, value-unused}
 use Rattle.soqe_term.proofs.Sortings.{sorted_term-agree}
 use Rattle.soqe_term.proofs.EqualTerms.{equal_terms-same}
-use Rattle.soqe_term.proofs.Enumerations.{every-from}
+use Rattle.soqe_number.proofs.Enumerations.{every-from}
 use Rattle.soqe_form.specs.declared.form.Form.{Form, True, Equal, Not, And, Imp, All, Ex}
 use Rattle.soqe_form.specs.Boxes.{boxes}
 use Rattle.soqe_form.specs.Truth.{truth}

@@ -10,7 +10,7 @@ use Rattle.soqe_term.specs.Occurs.{occurs}
 use Rattle.soqe_term.specs.Sorting.{Sorting, over_var, own_sort, sorted_term}
 use Rattle.soqe_term.specs.Fits.{Fits}
 use Rattle.soqe_term.specs.Bindings.{term_or}
-use Rattle.soqe_term.proofs.Choices.{by_cases}
+use Rattle.soqe_number.proofs.Choices.{by_cases}
 use Rattle.soqe_term.proofs.Worlds.{changed-at, value-unused}
 use Rattle.soqe_term.proofs.Values.{value-below}
 use Rattle.soqe_form.specs.declared.form.Form.{Form, True, False, Equal, Atom, Not, Not', And, And', Or, Or', Imp, Imp', Iff, Iff', All, All', Ex, Ex', All2, All2', Ex2, Ex2', end_of-Form as end, more_of-Form as one}

@@ -3,8 +3,8 @@ use Rattle.std.proofs.Common.{◌≡◌, ℕ, Bool, true, false, cond, eqb, not,
 use Rattle.std.proofs.lemmas.Bool.{eqb-true, both_ways}
 use Rattle.soqe_term.specs.declared.term.Var.{Var}
 use Rattle.soqe_term.specs.World.{with_var, with_bound}
-use Rattle.soqe_term.specs.Finite.{product, entry}
-use Rattle.soqe_term.proofs.Choices.{bool_cases}
+use Rattle.soqe_number.specs.Finite.{product, entry}
+use Rattle.soqe_number.proofs.Choices.{bool_cases}
 use Rattle.soqe_form.specs.declared.form.PVar.{PVar}
 use Rattle.soqe_form.specs.declared.form.Form.{Form, All, Ex, All2, Ex2}
 use Rattle.soqe_form.specs.Boxes.{boxes}

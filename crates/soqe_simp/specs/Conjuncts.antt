@@ -9,7 +9,7 @@ use Rattle.soqe_term.specs.declared.term.Var.{Var}
 use Rattle.soqe_term.specs.declared.term.Term.{Term, Var as var}
 use Rattle.soqe_term.specs.Equal.{equal_terms}
 use Rattle.soqe_term.specs.Occurs.{occurs}
-use Rattle.soqe_term.specs.Unused.{member}
+use Rattle.soqe_number.specs.Unused.{member}
 use Rattle.soqe_term.specs.Sorting.{own_sort}
 use Rattle.soqe_form.specs.declared.form.Form.{Form, True, False, Equal, Atom, Not, Not', And, And', Or, Or', Imp, Imp', Iff, Iff', All, All', Ex, Ex', All2, All2', Ex2, Ex2', end_of-Form as end, more_of-Form as one}
 use Rattle.soqe_simp.specs.declared.conjuncts.Solved.{Solved}

@@ -1,10 +1,10 @@
 -- What is known of the formula behind a chain of quantifiers, while they are put back from the innermost on.
 use Rattle.std.specs.Prelude.{ℕ, suc, ◌≡◌, ◌<◌, ◌≤◌, true, false, List, slice_get, Some, None}
-use Rattle.soqe_term.specs.World.{changed}
-use Rattle.soqe_term.specs.Unused.{member}
+use Rattle.soqe_number.specs.Updates.{changed}
+use Rattle.soqe_number.specs.Unused.{member}
 use Rattle.soqe_term.specs.declared.term.Var.{Var}
-use Rattle.soqe_form.specs.Counts.{counted}
-use Rattle.soqe_form.specs.Marks.{marked}
+use Rattle.soqe_number.specs.Counts.{counted}
+use Rattle.soqe_number.specs.Marks.{marked}
 use Rattle.soqe_form.specs.Free.{free as free_in}
 use Rattle.soqe_form.specs.declared.form.Form.{Form}
 use Rattle.soqe_form.specs.declared.quantifiers.Quantifier.{Quantifier}

@@ -3,7 +3,7 @@
 -- Where the quantifiers stand is known by places: the further in the quantifier of a number stands, the greater is its place, and
 -- a number without a quantifier has the place 0. A quantifier inside the formula stands further in than the whole chain.
 use Rattle.std.specs.Prelude.{ℕ, eqb, nat_lt, Bool, false, ◌&&◌, ◌||◌, not}
-use Rattle.soqe_term.specs.World.{changed}
+use Rattle.soqe_number.specs.Updates.{changed}
 use Rattle.soqe_term.specs.declared.term.Term.{Term, Var as var, App}
 use Rattle.soqe_term.specs.declared.term.Terms.{Terms, Nil, Cons', end_of-Term as end-t, more_of-Term as one-t, end_of-Terms as ends-t, more_of-Terms as ones-t}
 use Rattle.soqe_form.specs.declared.form.Form.{Form, True, False, Equal, Atom, Not', And', Or', Imp', Iff', All', Ex', All2', Ex2', end_of-Form as end, more_of-Form as one}

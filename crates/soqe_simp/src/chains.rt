@@ -9,7 +9,7 @@ ghost use Rattle.soqe_simp.specs.Weight.{weight};
 
 use crate::stepping::{Stepped, take_step};
 use soqe_form::{Form, Quantifier};
-use soqe_term::Mem;
+use soqe_number::Mem;
 use sqlite_items::Boxed;
 use std::alloc::Global;
 

@@ -3,14 +3,15 @@
 
 ghost use Rattle.std.specs.Prelude.{◌≡◌, IfOk, Some};
 ghost use Rattle.std.specs.Option.{option_map};
-ghost use Rattle.soqe_term.specs.Unused.{member};
+ghost use Rattle.soqe_number.specs.Unused.{member};
 ghost use Rattle.soqe_form.specs.declared.form.Form.{And, Imp, All, Ex, Not};
 ghost use Rattle.soqe_simp.specs.Conjuncts.{around, occurs_one, defines as defines_of, solution as solution_of, solved as solved_of, below_alls, solved_not as solved_not_of, solved_imp as solved_imp_of};
 ghost use Rattle.soqe_simp.specs.Passed.{numbers_of};
 
 use soqe_form::make::{conjunction, constant, exists, for_all, implication, negation};
 use soqe_form::{Form, copy_boxed};
-use soqe_term::{Mem, Term, Var, occurs};
+use soqe_number::Mem;
+use soqe_term::{Term, Var, occurs};
 use sqlite_items::Boxed;
 use std::alloc::Global;
 

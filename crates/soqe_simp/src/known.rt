@@ -2,14 +2,15 @@
 #![tactic(auto, unfolding(soqe_form::specs::Boxes::boxes))]
 
 ghost use Rattle.std.specs.Prelude.{◌≡◌, OnOk, IfOk, cond, length};
-ghost use Rattle.soqe_form.specs.Counts.{counted};
-ghost use Rattle.soqe_form.specs.Marks.{marked};
+ghost use Rattle.soqe_number.specs.Counts.{counted};
+ghost use Rattle.soqe_number.specs.Marks.{marked};
 ghost use Rattle.soqe_form.specs.Free.{free as free_in};
 ghost use Rattle.soqe_simp.specs.Known.{ArePlaces, Learns, Passes};
 
 use crate::sides::{mark_conditions, mark_sides};
-use soqe_form::{Counts, Form, Marks, Quantifier, free_vars};
-use soqe_term::Mem;
+use soqe_number::{Counts, Marks};
+use soqe_form::{Form, Quantifier, free_vars};
+use soqe_number::Mem;
 use std::alloc::Global;
 
 /// The places of the chain's quantifiers, and marks: on the numbers that are free in the formula (`free`), on those that an equation

@@ -12,7 +12,8 @@ use crate::rewriting::Rewritten;
 use crate::stepping::Stepped;
 use soqe_form::Form;
 use soqe_subst::subst;
-use soqe_term::{Mem, Var};
+use soqe_number::Mem;
+use soqe_term::Var;
 use sqlite_items::Boxed;
 use std::alloc::Global;
 

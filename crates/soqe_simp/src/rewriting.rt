@@ -6,7 +6,7 @@ ghost use Rattle.soqe_simp.specs.Step.{step as step_of};
 
 use crate::stepping::{Stepped, take_step};
 use soqe_form::{Form, copy_boxed};
-use soqe_term::Mem;
+use soqe_number::Mem;
 use sqlite_items::Boxed;
 use std::alloc::Global;
 

@@ -13,7 +13,8 @@ use crate::questions::{ends_in_implication, ends_in_negation};
 use crate::results::with_solution;
 use soqe_form::Form;
 use soqe_form::make::{conjunction, implication, negation};
-use soqe_term::{Mem, Var};
+use soqe_number::Mem;
+use soqe_term::Var;
 use sqlite_items::Boxed;
 use std::alloc::Global;
 

@@ -2,13 +2,15 @@
 #![tactic(auto, unfolding(soqe_form::specs::Boxes::boxes, soqe_term::specs::Boxes::boxes))]
 
 ghost use Rattle.std.specs.Prelude.{◌≡◌, OnOk};
-ghost use Rattle.soqe_form.specs.Counts.{counted};
-ghost use Rattle.soqe_form.specs.Marks.{Adds};
+ghost use Rattle.soqe_number.specs.Counts.{counted};
+ghost use Rattle.soqe_number.specs.Marks.{Adds};
 ghost use Rattle.soqe_form.specs.declared.form.Form.{Ex, All};
 ghost use Rattle.soqe_simp.specs.Sides.{is_within, has_number, has_number_in, says, has_side, has_condition};
 
-use soqe_form::{Counts, Form, Marks};
-use soqe_term::{Mem, Term, Terms, Var};
+use soqe_number::{Counts, Marks};
+use soqe_form::Form;
+use soqe_number::Mem;
+use soqe_term::{Term, Terms, Var};
 use sqlite_items::Boxed;
 
 /// Whether the term has the variable n, or one whose quantifier stands further in.

@@ -14,7 +14,7 @@ use crate::known::{Known, know, learn, may_be_defined, pass};
 use crate::rewriting::Rewritten;
 use crate::stepping::{Stepped, take_step};
 use soqe_form::{Form, Quantifier, quantified};
-use soqe_term::Mem;
+use soqe_number::Mem;
 use sqlite_items::Boxed;
 use std::alloc::Global;
 

@@ -12,7 +12,7 @@ use crate::results::gives;
 use crate::rewriting::Rewritten;
 use crate::rows::{excluded, joined, solved_condition, solved_negation, solved_some};
 use soqe_form::{Form, is_free, same};
-use soqe_term::Mem;
+use soqe_number::Mem;
 use sqlite_items::Boxed;
 use std::alloc::Global;
 

@@ -4,11 +4,12 @@ use Rattle.std.proofs.lemmas.Bool.{eqb-true, eqb-false, ne_eqb, or_from, both_wa
 use Rattle.soqe_term.specs.declared.bindings.Bound.{Bound}
 use Rattle.soqe_term.specs.declared.term.Var.{Var}
 use Rattle.soqe_term.specs.declared.term.Term.{Term, Var as var}
-use Rattle.soqe_term.specs.World.{World, changed, with_var, with_bound}
+use Rattle.soqe_term.specs.World.{World, with_var, with_bound}
+use Rattle.soqe_number.specs.Updates.{changed}
 use Rattle.soqe_term.specs.Value.{value}
 use Rattle.soqe_term.specs.Occurs.{occurs, AgreeOn}
 use Rattle.soqe_term.specs.Bindings.{bound_term, term_or, term_of, assigned}
-use Rattle.soqe_term.proofs.Choices.{by_cases, and_fails, or_none_first, or_none_second}
+use Rattle.soqe_number.proofs.Choices.{by_cases, and_fails, or_none_first, or_none_second}
 use Rattle.soqe_term.proofs.Worlds.{changed-commutes, value-unused, value-bound, occurs-above}
 use Rattle.soqe_subst.specs.Substitution.{visible, without, bound_mentions, bound_above, caught}
 

@@ -10,15 +10,15 @@ use Rattle.soqe_term.specs.declared.term.Term.{Term, Var as var, App}
 use Rattle.soqe_term.specs.declared.term.Terms.{Terms, Nil, Cons', end_of-Term as end-t, more_of-Term as one-t, end_of-Terms as ends-t, more_of-Terms as ones-t}
 use Rattle.soqe_term.specs.Bindings.{bound_term, HasDistinctVars}
 use Rattle.soqe_term.specs.Occurs.{occurs, occurs_any}
-use Rattle.soqe_term.proofs.Choices.{by_cases}
-use Rattle.soqe_term.proofs.Renumbered.{eqb_sym}
+use Rattle.soqe_number.proofs.Choices.{by_cases}
+use Rattle.soqe_number.proofs.Equalities.{eqb_sym}
 use Rattle.soqe_form.specs.declared.form.Form.{Form, True, False, Equal, Atom, Not', And', Or', Imp', Iff', All', Ex', All2', Ex2', end_of-Form as end, more_of-Form as one}
-use Rattle.soqe_form.specs.Counts.{times}
+use Rattle.soqe_number.specs.Counts.{times}
 use Rattle.soqe_form.specs.Free.{free}
 use Rattle.soqe_form.specs.FreeVars.{occurrences, all_occurrences}
-use Rattle.soqe_form.proofs.Counted.{times-append, not_zero}
-use Rattle.soqe_tally.specs.Numbers.{numbers}
-use Rattle.soqe_tally.specs.Uses.{top, under, below}
+use Rattle.soqe_number.proofs.Counted.{times-append, not_zero}
+use Rattle.soqe_uses.specs.Numbers.{numbers}
+use Rattle.soqe_uses.specs.Uses.{top, under, below}
 use Rattle.soqe_subst.specs.Standing.{term_numbers, terms_numbers}
 use Rattle.soqe_subst.specs.Substitution.{visible, without, caught, catches}
 use Rattle.soqe_subst.specs.Catching.{put_by, put_in_term, put_in_terms, put_in}

@@ -4,15 +4,15 @@ use Rattle.std.proofs.lemmas.Bool.{eqb-true, lt-ltb, le-ltb}
 use Rattle.soqe_term.specs.declared.bindings.Bound.{Bound}
 use Rattle.soqe_term.specs.declared.term.Var.{Var}
 use Rattle.soqe_term.specs.declared.term.Term.{Term}
-use Rattle.soqe_term.specs.World.{changed}
+use Rattle.soqe_number.specs.Updates.{changed}
 use Rattle.soqe_term.specs.Bindings.{bound_term}
 use Rattle.soqe_form.specs.declared.form.Form.{Form, All}
 use Rattle.soqe_form.specs.Boxes.{boxes}
-use Rattle.soqe_form.specs.Counts.{counted, Counts}
-use Rattle.soqe_form.specs.Marks.{marked}
-use Rattle.soqe_form.proofs.Counted.{not_zero}
-use Rattle.soqe_tally.specs.Uses.{below}
-use Rattle.soqe_tally.proofs.UsesCounted.{counts-none}
+use Rattle.soqe_number.specs.Counts.{counted, Counts}
+use Rattle.soqe_number.specs.Marks.{marked}
+use Rattle.soqe_number.proofs.Counted.{not_zero}
+use Rattle.soqe_uses.specs.Uses.{below}
+use Rattle.soqe_uses.proofs.UsesCounted.{counts-none}
 use Rattle.soqe_subst.specs.Substitution.{visible, without}
 use Rattle.soqe_subst.specs.Catching.{put_by, put_in, AreCaught, Foresees}
 use Rattle.soqe_subst.proofs.Binders.{without-visible, bound_term-visible}

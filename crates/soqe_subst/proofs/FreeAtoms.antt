@@ -9,7 +9,7 @@ use Rattle.soqe_term.specs.Boxes.{boxes as term_boxes}
 use Rattle.soqe_term.specs.Bindings.{all_bound_in}
 use Rattle.soqe_term.specs.Sorting.{Sorting, over_var, over_bound, with_sorts, own_sort, sorted_term, sorted_terms}
 use Rattle.soqe_term.specs.Subst.{all_replaced}
-use Rattle.soqe_term.proofs.Choices.{by_cases, bool_cases, and_first, and_second, or_none_first, or_none_second}
+use Rattle.soqe_number.proofs.Choices.{by_cases, bool_cases, and_first, and_second, or_none_first, or_none_second}
 use Rattle.soqe_term.proofs.Worlds.{changed-off}
 use Rattle.soqe_form.specs.declared.form.Pred.{Pred}
 use Rattle.soqe_form.specs.declared.form.Pred.TheVariants.{Decl, Bound}

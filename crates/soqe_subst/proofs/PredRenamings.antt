@@ -3,8 +3,8 @@ use Rattle.std.proofs.Common.{◌≡◌, ℕ, suc, max, ◌≤◌, Bool, true, f
 use Rattle.std.proofs.lemmas.Bool.{eqb-true, ne_eqb, or_from, both_ways}
 use Rattle.soqe_term.specs.World.{World, with_var, with_bound}
 use Rattle.soqe_term.specs.Value.{values}
-use Rattle.soqe_term.specs.Finite.{every, some, every_list, some_list, product, entry}
-use Rattle.soqe_term.proofs.Choices.{by_cases, bool_cases, or_none_first, or_none_second}
+use Rattle.soqe_number.specs.Finite.{every, some, every_list, some_list, product, entry}
+use Rattle.soqe_number.proofs.Choices.{by_cases, bool_cases, or_none_first, or_none_second}
 use Rattle.soqe_term.proofs.Worlds.{changed-at, changed-off, changed-commutes, changed-again, values-bound, value-bound}
 use Rattle.soqe_form.specs.declared.form.Pred.{Pred}
 use Rattle.soqe_form.specs.declared.form.Pred.TheVariants.{Decl, Bound}

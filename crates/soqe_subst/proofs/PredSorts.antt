@@ -4,9 +4,9 @@ use Rattle.std.proofs.lemmas.Bool.{eqb-true}
 use Rattle.soqe_term.specs.declared.term.Sym.TheVariants.{Fun, Skolem}
 use Rattle.soqe_term.specs.declared.term.Term.{Term, Var as var, App}
 use Rattle.soqe_term.specs.declared.term.Terms.{Terms, Nil, Cons', end_of-Term as end-t, more_of-Term as one-t, end_of-Terms as ends-t, more_of-Terms as ones-t}
-use Rattle.soqe_term.specs.World.{changed}
+use Rattle.soqe_number.specs.Updates.{changed}
 use Rattle.soqe_term.specs.Sorting.{Sorting, over_var, over_bound, with_sorts, with_fun, own_sort, sorted_term, sorted_terms}
-use Rattle.soqe_term.proofs.Choices.{by_cases, bool_cases, or_none_first, or_none_second}
+use Rattle.soqe_number.proofs.Choices.{by_cases, bool_cases, or_none_first, or_none_second}
 use Rattle.soqe_term.proofs.Sortings.{sorted_term-agree, sorted_terms-agree}
 use Rattle.soqe_term.proofs.Worlds.{changed-at, changed-off, changed-commutes, changed-again}
 use Rattle.soqe_form.specs.declared.form.Pred.{Pred}

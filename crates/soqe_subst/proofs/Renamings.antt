@@ -6,8 +6,8 @@ use Rattle.soqe_term.specs.declared.term.Term.{Var as var}
 use Rattle.soqe_term.specs.World.{World, with_var, with_bound}
 use Rattle.soqe_term.specs.Value.{values}
 use Rattle.soqe_term.specs.Occurs.{occurs}
-use Rattle.soqe_term.specs.Finite.{every, some, every_list, some_list, product, entry}
-use Rattle.soqe_term.proofs.Choices.{by_cases, or_none_first, or_none_second}
+use Rattle.soqe_number.specs.Finite.{every, some, every_list, some_list, product, entry}
+use Rattle.soqe_number.proofs.Choices.{by_cases, or_none_first, or_none_second}
 use Rattle.soqe_term.proofs.Worlds.{changed-commutes, changed-again, changed-off, occurs-above, occurs_any-above}
 use Rattle.soqe_term.proofs.Replaced.{value-replaced, values-replaced}
 use Rattle.soqe_form.specs.declared.form.Form.{Form, True, False, Equal, Atom, Not', And', Or', Imp', Iff', All', Ex', All2', Ex2', end_of-Form as end, more_of-Form as one}

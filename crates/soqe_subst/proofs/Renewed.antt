@@ -14,10 +14,10 @@ use Rattle.soqe_term.specs.declared.term.Var.{Var}
 use Rattle.soqe_term.specs.declared.term.Term.{Term, Var as var, App}
 use Rattle.soqe_term.specs.declared.term.Terms.{Terms, Nil, Cons, Cons', end_of-Term as end-t, more_of-Term as one-t, end_of-Terms as ends-t, more_of-Terms as ones-t}
 use Rattle.soqe_term.specs.Boxes.{boxes as term_boxes}
-use Rattle.soqe_term.specs.World.{changed}
+use Rattle.soqe_number.specs.Updates.{changed}
 use Rattle.soqe_term.specs.Occurs.{occurs, occurs_any}
 use Rattle.soqe_term.specs.Subst.{replaced, all_replaced}
-use Rattle.soqe_term.proofs.Choices.{by_cases, bool_cases, or_none_first, or_none_second}
+use Rattle.soqe_number.proofs.Choices.{by_cases, bool_cases, or_none_first, or_none_second}
 use Rattle.soqe_term.proofs.Worlds.{changed-again, changed-commutes}
 use Rattle.soqe_form.specs.declared.form.Form.{Form, True, False, Equal, Atom, Not, Not', And, And', Or, Or', Imp, Imp', Iff, Iff', All, All', Ex, Ex', All2, All2', Ex2, Ex2', end_of-Form as end, more_of-Form as one}
 use Rattle.soqe_form.specs.Boxes.{boxes}

@@ -6,7 +6,7 @@ use Rattle.soqe_term.specs.declared.bindings.Bound.{Bound}
 use Rattle.soqe_term.specs.declared.term.Var.{Var}
 use Rattle.soqe_term.specs.declared.term.Term.{Term}
 use Rattle.soqe_term.specs.Bindings.{bound_term}
-use Rattle.soqe_tally.specs.Numbers.{numbers}
+use Rattle.soqe_uses.specs.Numbers.{numbers}
 use Rattle.soqe_subst.specs.Standing.{term_numbers, binding_numbers, entry_numbers, numbers_at}
 use Rattle.soqe_subst.specs.Substitution.{visible}
 use Rattle.soqe_subst.proofs.Binders.{bound_term-visible}

@@ -13,24 +13,24 @@ use Rattle.soqe_term.specs.declared.term.Var.{Var}
 use Rattle.soqe_term.specs.declared.term.Term.{Term, Var as var, App}
 use Rattle.soqe_term.specs.declared.term.Terms.{Terms, Nil, Cons', end_of-Term as end-t, more_of-Term as one-t, end_of-Terms as ends-t, more_of-Terms as ones-t}
 use Rattle.soqe_term.specs.Boxes.{boxes as term_boxes}
-use Rattle.soqe_term.specs.World.{changed}
+use Rattle.soqe_number.specs.Updates.{changed}
 use Rattle.soqe_term.specs.Occurs.{occurs, occurs_any}
-use Rattle.soqe_term.specs.Unused.{member}
+use Rattle.soqe_number.specs.Unused.{member}
 use Rattle.soqe_term.specs.Bindings.{bound_term, HasDistinctVars}
-use Rattle.soqe_term.proofs.Choices.{by_cases, bool_cases}
-use Rattle.soqe_term.proofs.Renumbered.{eqb_sym}
+use Rattle.soqe_number.proofs.Choices.{by_cases, bool_cases}
+use Rattle.soqe_number.proofs.Equalities.{eqb_sym}
 use Rattle.soqe_term.proofs.Worlds.{changed-again, changed-commutes}
 use Rattle.soqe_form.specs.declared.form.Form.{Form, True, False, Equal, Atom, Not', And, And', Or', Imp', Iff', All, All', Ex', All2', Ex2', end_of-Form as end, more_of-Form as one}
 use Rattle.soqe_form.specs.Boxes.{boxes}
-use Rattle.soqe_form.specs.Counts.{times}
+use Rattle.soqe_number.specs.Counts.{times}
 use Rattle.soqe_form.specs.FreeVars.{occurrences, all_occurrences, others, free_occurrences}
-use Rattle.soqe_form.specs.Marks.{IsLeastWithout}
+use Rattle.soqe_number.specs.Marks.{IsLeastWithout}
 use Rattle.soqe_form.specs.Mentions.{mentions, form_above}
-use Rattle.soqe_form.proofs.Counted.{times-append}
+use Rattle.soqe_number.proofs.Counted.{times-append}
 use Rattle.soqe_form.proofs.Numbers.{eqb-swap, first_from-is}
-use Rattle.soqe_tally.specs.Numbers.{numbers}
-use Rattle.soqe_tally.specs.Uses.{uses}
-use Rattle.soqe_tally.proofs.UsesCounted.{times-others}
+use Rattle.soqe_uses.specs.Numbers.{numbers}
+use Rattle.soqe_uses.specs.Uses.{uses}
+use Rattle.soqe_uses.proofs.UsesCounted.{times-others}
 use Rattle.soqe_subst.specs.Renewed.{renewed_term, all_renewed, renewed}
 use Rattle.soqe_subst.specs.Standing.{term_numbers, terms_numbers, form_numbers, binding_numbers, entry_numbers, standing, lost_below}
 use Rattle.soqe_subst.specs.Substitution.{without, bound_mentions, bound_above, lacks, fresh}

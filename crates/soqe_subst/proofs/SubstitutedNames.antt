@@ -8,7 +8,7 @@ use Rattle.soqe_term.specs.declared.term.Terms.{Terms, Nil, Cons', end_of-Term a
 use Rattle.soqe_term.specs.Boxes.{boxes as term_boxes}
 use Rattle.soqe_term.specs.Occurs.{occurs, occurs_any}
 use Rattle.soqe_term.specs.Bindings.{bound_term, term_or, term_of, bound_in, all_bound_in}
-use Rattle.soqe_term.proofs.Choices.{bool_cases}
+use Rattle.soqe_number.proofs.Choices.{bool_cases}
 use Rattle.soqe_term.proofs.Worlds.{eqb-self}
 use Rattle.soqe_form.specs.declared.form.Form.{Form, True, False, Equal, Atom, Not', And', Or', Imp', Iff', All', Ex', All2', Ex2', end_of-Form as end, more_of-Form as one}
 use Rattle.soqe_form.specs.Boxes.{boxes}

@@ -13,13 +13,13 @@ use Rattle.soqe_term.specs.declared.term.Var.{Var}
 use Rattle.soqe_term.specs.declared.term.Term.{Term, App, Var as var}
 use Rattle.soqe_term.specs.declared.term.Terms.{Terms, Nil, Cons', end_of-Term as end-t, more_of-Term as one-t, end_of-Terms as ends-t, more_of-Terms as ones-t}
 use Rattle.soqe_term.specs.Boxes.{boxes as term_boxes}
-use Rattle.soqe_term.specs.World.{changed}
+use Rattle.soqe_number.specs.Updates.{changed}
 use Rattle.soqe_term.specs.Occurs.{occurs, occurs_any}
 use Rattle.soqe_term.specs.Sorting.{Sorting, over_var, over_bound, sym_sort, is_sort, with_sorts, own_sort, sorted_term, sorted_terms}
-use Rattle.soqe_term.specs.SkolemSigs.{over_vars}
+use Rattle.soqe_term.specs.Sorting.{over_vars}
 use Rattle.soqe_term.specs.Subst.{replaced, all_replaced}
 use Rattle.soqe_term.specs.Bindings.{bound_term, term_or, term_of, bound_in, all_bound_in, over_binding, HasOwnSorts, AreSorted}
-use Rattle.soqe_term.proofs.Choices.{by_cases, bool_cases, and_first, and_second, or_none_first, or_none_second}
+use Rattle.soqe_number.proofs.Choices.{by_cases, bool_cases, and_first, and_second, or_none_first, or_none_second}
 use Rattle.soqe_term.proofs.Worlds.{changed-at, changed-off, changed-again, changed-commutes, agree_changed, eqb-self}
 use Rattle.soqe_term.proofs.Sortings.{sorted_term-agree}
 use Rattle.soqe_term.proofs.Values.{fun-of}

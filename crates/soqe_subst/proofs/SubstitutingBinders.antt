@@ -6,20 +6,20 @@ use Rattle.soqe_term.specs.declared.bindings.Bound.{Bound as Pair}
 use Rattle.soqe_term.specs.declared.term.Var.{Var}
 use Rattle.soqe_term.specs.Renumber.{numbered}
 use Rattle.soqe_term.specs.Occurs.{occurs}
-use Rattle.soqe_term.specs.Unused.{member}
-use Rattle.soqe_term.specs.World.{changed}
-use Rattle.soqe_term.proofs.Choices.{or_none_first, or_none_second}
+use Rattle.soqe_number.specs.Unused.{member}
+use Rattle.soqe_number.specs.Updates.{changed}
+use Rattle.soqe_number.proofs.Choices.{or_none_first, or_none_second}
 use Rattle.soqe_term.proofs.Worlds.{changed-again, changed-same, changed-at}
 use Rattle.soqe_form.specs.declared.form.Form.{Form, All}
 use Rattle.soqe_form.specs.Boxes.{boxes}
-use Rattle.soqe_form.specs.Counts.{times}
-use Rattle.soqe_form.specs.Marks.{marked, IsLeastWithout}
+use Rattle.soqe_number.specs.Counts.{times}
+use Rattle.soqe_number.specs.Marks.{marked, IsLeastWithout}
 use Rattle.soqe_form.specs.Mentions.{mentions}
-use Rattle.soqe_tally.specs.declared.unkept.Unkept.{Unkept}
-use Rattle.soqe_tally.specs.declared.tally.Tally.{Tally}
-use Rattle.soqe_tally.specs.Unkept.{Keeps, IsLeastBeside}
-use Rattle.soqe_tally.specs.Uses.{uses, top, under, below}
-use Rattle.soqe_tally.specs.Tallies.{IsRightIfKnown, Leaves, Finds}
+use Rattle.soqe_number.specs.declared.unkept.Unkept.{Unkept}
+use Rattle.soqe_number.specs.declared.tally.Tally.{Tally}
+use Rattle.soqe_number.specs.Unkept.{Keeps, IsLeastBeside}
+use Rattle.soqe_uses.specs.Uses.{uses, top, under, below}
+use Rattle.soqe_number.specs.Tallies.{IsRightIfKnown, Leaves, Finds}
 use Rattle.soqe_subst.specs.declared.walk.Walk.{Walk}
 use Rattle.soqe_subst.specs.declared.walk.Found.{Found}
 use Rattle.soqe_subst.specs.Catching.{AreCaught}

@@ -3,15 +3,15 @@ use Rattle.std.proofs.Common.{◌≡◌, ℕ, max, ◌≤◌, Bool, true, false,
 use Rattle.std.proofs.lemmas.Bool.{both_ways}
 use Rattle.soqe_term.specs.declared.bindings.Bound.{Bound as Pair}
 use Rattle.soqe_term.specs.declared.term.Var.{Var}
-use Rattle.soqe_term.proofs.Choices.{or_none_first, or_none_second}
+use Rattle.soqe_number.proofs.Choices.{or_none_first, or_none_second}
 use Rattle.soqe_form.specs.declared.form.Form.{Form, And, Or, Imp, Iff}
 use Rattle.soqe_form.specs.Boxes.{boxes}
-use Rattle.soqe_form.specs.Marks.{marked}
+use Rattle.soqe_number.specs.Marks.{marked}
 use Rattle.soqe_form.specs.Mentions.{depth}
-use Rattle.soqe_tally.specs.declared.unkept.Unkept.{Unkept}
-use Rattle.soqe_tally.specs.declared.tally.Tally.{Tally}
-use Rattle.soqe_tally.specs.Uses.{below}
-use Rattle.soqe_tally.specs.Tallies.{IsRightIfKnown, Leaves}
+use Rattle.soqe_number.specs.declared.unkept.Unkept.{Unkept}
+use Rattle.soqe_number.specs.declared.tally.Tally.{Tally}
+use Rattle.soqe_uses.specs.Uses.{below}
+use Rattle.soqe_number.specs.Tallies.{IsRightIfKnown, Leaves}
 use Rattle.soqe_subst.specs.declared.walk.Walk.{Walk}
 use Rattle.soqe_subst.specs.NewVars.{new_var}
 use Rattle.soqe_subst.specs.Renewed.{renewed, binds}

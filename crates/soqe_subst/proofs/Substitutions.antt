@@ -3,11 +3,12 @@ use Rattle.std.proofs.Common.{◌≡◌, ℕ, zero, suc, max, ◌+◌, ◌<◌, 
 use Rattle.std.proofs.lemmas.Bool.{or_from}
 use Rattle.soqe_term.specs.declared.bindings.Bound.{Bound as Pair}
 use Rattle.soqe_term.specs.declared.term.Var.{Var}
-use Rattle.soqe_term.specs.World.{World, changed, with_var, with_bound}
+use Rattle.soqe_term.specs.World.{World, with_var, with_bound}
+use Rattle.soqe_number.specs.Updates.{changed}
 use Rattle.soqe_term.specs.Value.{values}
-use Rattle.soqe_term.specs.Finite.{every, some, every_list, some_list, product, entry}
+use Rattle.soqe_number.specs.Finite.{every, some, every_list, some_list, product, entry}
 use Rattle.soqe_term.specs.Bindings.{assigned, with_binding}
-use Rattle.soqe_term.proofs.Choices.{bool_cases, or_none_first, or_none_second}
+use Rattle.soqe_number.proofs.Choices.{bool_cases, or_none_first, or_none_second}
 use Rattle.soqe_term.proofs.Worlds.{reading, changed-at, agree_changed, first_from-passes}
 use Rattle.soqe_term.proofs.Replaced.{value-bound_in, values-bound_in}
 use Rattle.soqe_form.specs.declared.form.Form.{Form, True, False, Equal, Atom, Not', And', Or', Imp', Iff', All', Ex', All2', Ex2', end_of-Form as end, more_of-Form as one}

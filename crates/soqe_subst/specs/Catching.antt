@@ -7,9 +7,9 @@ use Rattle.soqe_term.specs.declared.term.Term.{Term, Var as var, App}
 use Rattle.soqe_term.specs.declared.term.Terms.{Terms, Nil, Cons', end_of-Term as end-t, more_of-Term as one-t, end_of-Terms as ends-t, more_of-Terms as ones-t}
 use Rattle.soqe_term.specs.Bindings.{bound_term, HasDistinctVars}
 use Rattle.soqe_form.specs.declared.form.Form.{Form, True, False, Equal, Atom, Not', And', Or', Imp', Iff', All', Ex', All2', Ex2', end_of-Form as end, more_of-Form as one}
-use Rattle.soqe_form.specs.Counts.{times, Counts}
-use Rattle.soqe_form.specs.Marks.{marked}
-use Rattle.soqe_tally.specs.Uses.{top, under, below}
+use Rattle.soqe_number.specs.Counts.{times, Counts}
+use Rattle.soqe_number.specs.Marks.{marked}
+use Rattle.soqe_uses.specs.Uses.{top, under, below}
 use Rattle.soqe_subst.specs.Substitution.{visible, without, catches}
 use Rattle.soqe_subst.specs.Standing.{term_numbers}
 

@@ -1,6 +1,7 @@
 -- Laws of substitution and of renaming: what is true of the result, and that a predicate that is not free doesn't matter.
 use Rattle.std.specs.Prelude.{ℕ, ◌≡◌, ◌≤◌, Bool, true, false, List}
-use Rattle.soqe_term.specs.World.{World, changed, with_bound}
+use Rattle.soqe_term.specs.World.{World, with_bound}
+use Rattle.soqe_number.specs.Updates.{changed}
 use Rattle.soqe_term.specs.Sorting.{Sorting}
 use Rattle.soqe_term.specs.declared.bindings.Bound.{Bound}
 use Rattle.soqe_term.specs.Bindings.{with_binding, over_binding, HasOwnSorts, AreSorted}

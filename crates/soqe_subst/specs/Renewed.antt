@@ -2,7 +2,7 @@
 -- stay. It is what is left of a formula's renamed binders around one of its parts.
 use Rattle.std.specs.Prelude.{ℕ, Bool, eqb, false, ◌||◌, Option, None}
 use Rattle.std.specs.Option.{unwrap_or}
-use Rattle.soqe_term.specs.World.{changed}
+use Rattle.soqe_number.specs.Updates.{changed}
 use Rattle.soqe_term.specs.declared.term.Var.{Var}
 use Rattle.soqe_term.specs.declared.term.Term.{Term, Var as var, App}
 use Rattle.soqe_term.specs.declared.term.Terms.{Terms, Nil, Cons, Cons', end_of-Term as end-t, more_of-Term as one-t, end_of-Terms as ends-t, more_of-Terms as ones-t}

@@ -6,7 +6,7 @@ use Rattle.soqe_term.specs.declared.term.Terms.{Terms}
 use Rattle.soqe_term.specs.Bindings.{bound_term}
 use Rattle.soqe_form.specs.declared.form.Form.{Form, True, False, Equal, Atom, Not', And', Or', Imp', Iff', All', Ex', All2', Ex2', end_of-Form as end, more_of-Form as one}
 use Rattle.soqe_form.specs.FreeVars.{occurrences, all_occurrences}
-use Rattle.soqe_tally.specs.Numbers.{numbers}
+use Rattle.soqe_uses.specs.Numbers.{numbers}
 use Rattle.soqe_term.specs.declared.term.Var.{Var}
 use Rattle.soqe_subst.specs.NewVars.{new_var}
 use Rattle.soqe_subst.specs.Renewed.{renewed}

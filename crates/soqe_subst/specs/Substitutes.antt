@@ -7,15 +7,15 @@ use Rattle.soqe_term.specs.declared.term.Term.{Term}
 use Rattle.soqe_term.specs.declared.term.Terms.{Terms}
 use Rattle.soqe_term.specs.Bindings.{bound_in, all_bound_in, HasDistinctVars}
 use Rattle.soqe_form.specs.declared.form.Form.{Form, And, All}
-use Rattle.soqe_form.specs.Marks.{marked}
+use Rattle.soqe_number.specs.Marks.{marked}
 use Rattle.soqe_form.specs.Mentions.{depth}
-use Rattle.soqe_form.specs.Counts.{times}
-use Rattle.soqe_term.specs.World.{changed}
-use Rattle.soqe_tally.specs.declared.unkept.Unkept.{Unkept}
-use Rattle.soqe_tally.specs.declared.tally.Tally.{Tally}
-use Rattle.soqe_tally.specs.Unkept.{Keeps}
-use Rattle.soqe_tally.specs.Uses.{uses, below, AreOnTop}
-use Rattle.soqe_tally.specs.Tallies.{IsRightIfKnown}
+use Rattle.soqe_number.specs.Counts.{times}
+use Rattle.soqe_number.specs.Updates.{changed}
+use Rattle.soqe_number.specs.declared.unkept.Unkept.{Unkept}
+use Rattle.soqe_number.specs.declared.tally.Tally.{Tally}
+use Rattle.soqe_number.specs.Unkept.{Keeps}
+use Rattle.soqe_uses.specs.Uses.{uses, below, AreOnTop}
+use Rattle.soqe_number.specs.Tallies.{IsRightIfKnown}
 use Rattle.soqe_subst.specs.declared.walk.Walk.{Walk}
 use Rattle.soqe_subst.specs.declared.walk.Found.{Found}
 use Rattle.soqe_subst.specs.Catching.{AreCaught}

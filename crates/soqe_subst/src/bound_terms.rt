@@ -3,13 +3,14 @@
 
 ghost use Rattle.std.specs.Prelude.{◌≡◌, IfOk};
 ghost use Rattle.soqe_term.specs.declared.term.Term.{Var as var};
-ghost use Rattle.soqe_form.specs.Marks.{marked};
+ghost use Rattle.soqe_number.specs.Marks.{marked};
 ghost use Rattle.soqe_subst.specs.NewVars.{new_var};
 ghost use Rattle.soqe_subst.specs.Substitutes.{BindsTerm, BindsTerms};
 
 use crate::new_vars::NewVars;
-use soqe_form::Marks;
-use soqe_term::{Binding, Mem, Term, Terms, Var};
+use soqe_number::Marks;
+use soqe_term::{Binding, Term, Terms, Var};
+use soqe_number::Mem;
 use sqlite_items::Boxed;
 use std::alloc::Global;
 

@@ -4,16 +4,18 @@
 ghost use Rattle.std.specs.Prelude.{◌≡◌, [], ◌∷◌, false, OnOk};
 ghost use Rattle.std.specs.List.{list_any};
 ghost use Rattle.soqe_form.specs.declared.form.Form.{All};
-ghost use Rattle.soqe_form.specs.Counts.{times, Counts as IsMore};
-ghost use Rattle.soqe_form.specs.Marks.{marked};
+ghost use Rattle.soqe_number.specs.Counts.{times, Counts as IsMore};
+ghost use Rattle.soqe_number.specs.Marks.{marked};
 ghost use Rattle.soqe_term.specs.Bindings.{bound_term};
-ghost use Rattle.soqe_tally.specs.Uses.{top, under};
+ghost use Rattle.soqe_uses.specs.Uses.{top, under};
 ghost use Rattle.soqe_subst.specs.Standing.{term_numbers, terms_numbers};
 ghost use Rattle.soqe_subst.specs.Substitution.{visible};
 ghost use Rattle.soqe_subst.specs.Catching.{put_by, put_in_term, put_in_terms, Foresees};
 
-use soqe_form::{Counts, Form, Marks};
-use soqe_term::{Binding, Mem, Term, Terms, Var};
+use soqe_number::{Counts, Marks};
+use soqe_form::Form;
+use soqe_term::{Binding, Term, Terms, Var};
+use soqe_number::Mem;
 use sqlite_items::Boxed;
 use std::alloc::Global;
 use std::marker::Model;

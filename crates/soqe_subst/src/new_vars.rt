@@ -1,10 +1,11 @@
 //! New variables for variables.
 ghost use Rattle.std.specs.Prelude.{◌≡◌, None, OnOk};
-ghost use Rattle.soqe_term.specs.World.{changed};
+ghost use Rattle.soqe_number.specs.Updates.{changed};
 ghost use Rattle.soqe_subst.specs.NewVars.{new_var};
 
 use indexmap::IndexMap;
-use soqe_term::{Mem, Var};
+use soqe_number::Mem;
+use soqe_term::Var;
 use std::alloc::Global;
 use std::marker::Model;
 

@@ -5,7 +5,8 @@ ghost use Rattle.std.specs.Prelude.{◌≡◌, IfOk, cond, eqb};
 ghost use Rattle.soqe_subst.specs.PredRenaming.{exchanged, renamed_pred};
 
 use soqe_form::{Form, PVar, Pred, copy_boxed};
-use soqe_term::{Mem, copy_term};
+use soqe_number::Mem;
+use soqe_term::copy_term;
 use sqlite_items::Boxed;
 use std::alloc::Global;
 

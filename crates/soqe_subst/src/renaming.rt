@@ -7,7 +7,8 @@ ghost use Rattle.soqe_term.specs.Subst.{replaced};
 ghost use Rattle.soqe_subst.specs.Substitution.{renamed};
 
 use soqe_form::{Form, copy_boxed};
-use soqe_term::{Mem, Term, Var, replace, replace_all};
+use soqe_number::Mem;
+use soqe_term::{Term, Var, replace, replace_all};
 use sqlite_items::Boxed;
 use std::alloc::Global;
 

@@ -3,18 +3,20 @@
 
 ghost use Rattle.std.specs.Prelude.{◌≡◌, ◌++◌, IfOk, OnOk, slice_get};
 ghost use Rattle.soqe_term.specs.Bindings.{bound_term};
-ghost use Rattle.soqe_form.specs.Marks.{marked};
+ghost use Rattle.soqe_number.specs.Marks.{marked};
 ghost use Rattle.soqe_form.specs.declared.form.Form.{All};
-ghost use Rattle.soqe_tally.specs.Tallies.{Leaves};
+ghost use Rattle.soqe_number.specs.Tallies.{Leaves};
 ghost use Rattle.soqe_subst.specs.NewVars.{new_var};
 ghost use Rattle.soqe_subst.specs.Renewed.{renewed_term, all_renewed, renewed};
 ghost use Rattle.soqe_subst.specs.Standing.{term_numbers, terms_numbers, form_numbers as numbers_in, entry_numbers, binding_numbers as numbers_of_binding, numbers_at, standing, lost_below, ListsForm};
 ghost use Rattle.soqe_subst.specs.Substitution.{visible};
 
 use crate::new_vars::NewVars;
-use soqe_form::{Form, Marks};
-use soqe_tally::{Tally, Unkept};
-use soqe_term::{Binding, Mem, Nums, Term, Terms, Var};
+use soqe_form::Form;
+use soqe_number::Marks;
+use soqe_number::{Tally, Unkept};
+use soqe_term::{Binding, Term, Terms, Var};
+use soqe_number::{Mem, Nums};
 use sqlite_items::Boxed;
 use std::alloc::Global;
 

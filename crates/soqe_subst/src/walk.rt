@@ -1,12 +1,12 @@
 //! What a walk over a formula knows of the binders around a part of it, and of those in it.
 
 ghost use Rattle.std.specs.Prelude.{◌≡◌, false};
-ghost use Rattle.soqe_tally.specs.Uses.{top, under};
+ghost use Rattle.soqe_uses.specs.Uses.{top, under};
 
 use crate::catching::Catches;
 use crate::new_vars::NewVars;
-use soqe_form::Marks;
-use soqe_tally::Uses;
+use soqe_number::Marks;
+use soqe_uses::Uses;
 
 /// Which variables are hidden by the binders around a part, which of those have new variables, and on top, for each binder in the
 /// part, whether it catches a variable and how often its own is used.

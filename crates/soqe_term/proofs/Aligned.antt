@@ -17,7 +17,7 @@ use Rattle.soqe_term.specs.Bindings.{term_of, bound_in, all_bound_in}
 use Rattle.soqe_term.specs.Equal.{equal_symbols}
 use Rattle.soqe_term.specs.Matching.{vars_of, vars_in}
 use Rattle.soqe_term.specs.Matched.{matched_var, matched, matched_all}
-use Rattle.soqe_term.proofs.Choices.{and_first, and_second}
+use Rattle.soqe_number.proofs.Choices.{and_first, and_second}
 use Rattle.soqe_term.proofs.Worlds.{eqb-self}
 use Rattle.soqe_term.proofs.EqualTerms.{equal_symbols-same, equal_symbols-refl}
 

@@ -7,7 +7,7 @@ use Rattle.soqe_term.specs.declared.term.Term.{Term, Var as var, App}
 use Rattle.soqe_term.specs.declared.term.Terms.{Terms, Nil, Cons, Cons', end_of-Term as end, more_of-Term as one, end_of-Terms as ends, more_of-Terms as ones}
 use Rattle.soqe_term.specs.Boxes.{boxes}
 use Rattle.soqe_term.specs.Equal.{equal_symbols, equal_terms, equal_lists}
-use Rattle.soqe_term.proofs.Choices.{and_first, and_second}
+use Rattle.soqe_number.proofs.Choices.{and_first, and_second}
 
 pub equal_symbols-same : (f g : Sym) → equal_symbols f g ≡ true → f ≡ g
 equal_symbols-same (Fun m) (Fun n) h = ap Fun (eqb-true m n h)

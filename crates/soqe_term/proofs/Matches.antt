@@ -16,13 +16,13 @@ use Rattle.std.specs.Option.{option_and_then}
 use Rattle.soqe_term.specs.declared.bindings.Bound.{Bound}
 use Rattle.soqe_term.specs.declared.term.Var.{Var}
 use Rattle.soqe_term.specs.declared.term.Term.{Term, Var as var}
-use Rattle.soqe_term.specs.Unused.{member}
+use Rattle.soqe_number.specs.Unused.{member}
 use Rattle.soqe_term.specs.Sorting.{own_sort}
 use Rattle.soqe_term.specs.Bindings.{bound_term, term_or, term_of, bound_in, HasOwnSorts}
 use Rattle.soqe_term.specs.Equal.{equal_terms}
 use Rattle.soqe_term.specs.Matching.{vars_of, new_vars, is_known, IsMatch}
 use Rattle.soqe_term.specs.Matched.{matched_at, matched_var, matched}
-use Rattle.soqe_term.proofs.Choices.{bool_cases}
+use Rattle.soqe_number.proofs.Choices.{bool_cases}
 use Rattle.soqe_term.proofs.Worlds.{eqb-self}
 use Rattle.soqe_term.proofs.EqualTerms.{equal_terms-same, equal_terms-from}
 use Rattle.soqe_term.proofs.Aligned.{Pair, aligned, steps, after, matched-aligned, read, aligned-bound_in, Reads, chosen, bound_in-aligned, aligned-vars}

@@ -7,16 +7,15 @@ use Rattle.soqe_term.specs.declared.term.Sym.TheVariants.{Fun, Skolem}
 use Rattle.soqe_term.specs.declared.term.Term.{Term, Var as var, App}
 use Rattle.soqe_term.specs.declared.term.Terms.{Terms, Nil, Cons', end_of-Term as end, more_of-Term as one, end_of-Terms as ends, more_of-Terms as ones}
 use Rattle.soqe_term.specs.Boxes.{boxes}
-use Rattle.soqe_term.specs.World.{World, changed}
+use Rattle.soqe_term.specs.World.{World}
+use Rattle.soqe_number.specs.Updates.{changed}
 use Rattle.soqe_term.specs.Value.{value, values}
 use Rattle.soqe_term.specs.Sorting.{Sorting, with_fun, own_sort, sorted_term, sorted_terms}
+use Rattle.soqe_number.proofs.Equalities.{eqb_sym}
 use Rattle.soqe_term.specs.Renumber.{renames, renumbered, all_renumbered}
-use Rattle.soqe_term.proofs.Choices.{same_test}
+use Rattle.soqe_number.proofs.Choices.{same_test}
 
 -- ---- the numbers
-
-pub eqb_sym : (m n : ℕ) → eqb m n ≡ eqb n m
-eqb_sym m n = same_test (eqb m n) (eqb n m) (λ e. eq-eqb n m (sym (eqb-true m n e))) (λ e. eq-eqb m n (sym (eqb-true n m e)))
 
 number_of : (b c : Bool) (to n : ℕ) (o : Option ℕ) → b ≡ c → unwrap_or (cond b (Some to) o) n ≡ cond c to (unwrap_or o n)
 number_of true true to n o e = refl

@@ -19,7 +19,7 @@ use Rattle.soqe_term.specs.Boxes.{boxes}
 use Rattle.soqe_term.specs.Sorting.{FunSort, Sorting, over_var, is_sort, with_fun, sym_sort, own_sort, sorted_term, sorted_terms}
 use Rattle.soqe_term.specs.Bindings.{bound_term, term_or, bound_in, all_bound_in, assigned, with_binding, over_binding, HasOwnSorts, AreSorted, HasValueOfBound, KeepsSortOfBound}
 use Rattle.soqe_term.specs.Subst.{replaced, all_replaced, HasValueOfReplaced, KeepsSort}
-use Rattle.soqe_term.proofs.Choices.{by_cases, and_first, and_second}
+use Rattle.soqe_number.proofs.Choices.{by_cases, and_first, and_second}
 use Rattle.soqe_term.proofs.Values.{fun-of}
 
 value-term_or : (w : World) (s : List Bound) (y : Var) → value w (term_or (var y) (bound_term s y.num)) ≡ assigned w s y.num

@@ -7,10 +7,10 @@ use Rattle.soqe_term.specs.declared.term.Term.{Term, Var as var, App}
 use Rattle.soqe_term.specs.declared.term.Terms.{Terms, Nil, Cons', end_of-Term as end, more_of-Term as one, end_of-Terms as ends, more_of-Terms as ones}
 use Rattle.soqe_term.specs.World.{World, with_var, with_bound}
 use Rattle.soqe_term.specs.Value.{value, values, apply}
-use Rattle.soqe_term.specs.Ranges.{InRange}
+use Rattle.soqe_number.specs.Ranges.{InRange}
 use Rattle.soqe_term.specs.Sorting.{FunSort, Sorting, over_var, over_bound, sym_sort, is_sort, with_sorts, with_fun, own_sort, sorted_term, sorted_terms}
 use Rattle.soqe_term.specs.Fits.{StaysIn, Fits, EqualIn, Matches}
-use Rattle.soqe_term.proofs.Choices.{and_first, and_second}
+use Rattle.soqe_number.proofs.Choices.{and_first, and_second}
 
 pub is-sort : (s : ℕ) (o : Option ℕ) → is_sort s o ≡ true → o ≡ Some s
 is-sort s None h = let h : false ≡ true = h in cc

@@ -3,10 +3,11 @@ use Rattle.std.proofs.Common.{◌≡◌, ℕ, Bool, true, false, cond, eqb, ◌|
 use Rattle.std.proofs.lemmas.Bool.{eqb-true, eqb-false, eq-eqb, ne_eqb, or_left, or_right, or_from, both_ways}
 use Rattle.soqe_term.specs.declared.term.Term.{Term, Var, App}
 use Rattle.soqe_term.specs.declared.term.Terms.{Terms, Nil, Cons', end_of-Term as end, more_of-Term as one, end_of-Terms as ends, more_of-Terms as ones}
-use Rattle.soqe_term.specs.World.{World, changed, with_var, with_bound}
+use Rattle.soqe_term.specs.World.{World, with_var, with_bound}
+use Rattle.soqe_number.specs.Updates.{changed}
 use Rattle.soqe_term.specs.Value.{value, values, apply}
 use Rattle.soqe_term.specs.Occurs.{occurs, occurs_any, AgreeOn, above, all_above, first_from}
-use Rattle.soqe_term.proofs.Choices.{by_cases}
+use Rattle.soqe_number.proofs.Choices.{by_cases}
 
 two_choices : {A : Type 0} (b c : Bool) (u v d : A) → (b ≡ true → c ≡ true → ⊥) → cond c v (cond b u d) ≡ cond b u (cond c v d)
 two_choices true true u v d h = absurd (h refl refl)

@@ -5,7 +5,8 @@ use Rattle.soqe_term.specs.declared.bindings.Bound.{Bound}
 use Rattle.soqe_term.specs.declared.term.Var.{Var}
 use Rattle.soqe_term.specs.declared.term.Term.{Term, Var as var, App}
 use Rattle.soqe_term.specs.declared.term.Terms.{Terms, Nil, Cons, Cons', end_of-Term as end, more_of-Term as one, end_of-Terms as ends, more_of-Terms as ones}
-use Rattle.soqe_term.specs.World.{World, changed}
+use Rattle.soqe_term.specs.World.{World}
+use Rattle.soqe_number.specs.Updates.{changed}
 use Rattle.soqe_term.specs.Value.{value}
 use Rattle.soqe_term.specs.Sorting.{Sorting, over_var, own_sort, sorted_term}
 

@@ -1,7 +1,7 @@
 -- When a world fits what is known of the names, and when two worlds are one as far as that goes.
 use Rattle.std.specs.Prelude.{ℕ, ◌≡◌, ◌<◌, List, map, Some}
 use Rattle.soqe_term.specs.World.{World}
-use Rattle.soqe_term.specs.Ranges.{InRange}
+use Rattle.soqe_number.specs.Ranges.{InRange}
 use Rattle.soqe_term.specs.Sorting.{FunSort, Sorting}
 
 -- the values of f are in range at arguments in range

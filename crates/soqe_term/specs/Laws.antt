@@ -3,16 +3,10 @@ use Rattle.std.specs.Prelude.{ℕ, ◌≡◌, ◌<◌, Bool, true, length, List}
 use Rattle.soqe_term.specs.declared.term.Term.{Term}
 use Rattle.soqe_term.specs.World.{World}
 use Rattle.soqe_term.specs.Value.{value}
-use Rattle.soqe_term.specs.Finite.{product, entry}
-use Rattle.soqe_term.specs.Ranges.{InRange, tabulated}
+use Rattle.soqe_number.specs.Finite.{product, entry}
+use Rattle.soqe_number.specs.Ranges.{InRange, tabulated}
 use Rattle.soqe_term.specs.Sorting.{Sorting, own_sort, sorted_term}
 use Rattle.soqe_term.specs.Fits.{Fits, Matches}
-use Rattle.soqe_term.specs.Declarations.{Declaration, sorting_of}
-use Rattle.soqe_term.specs.Structures.{Structure, Setting, world_of, IsStructureFor, IsSettingFor}
-
--- the world of a finite structure and a setting fits what the signature says
-abbrev pub StructuresFit : Type 0
-StructuresFit = (ds : List Declaration) (m : Structure) (s : Setting) → IsStructureFor ds m → IsSettingFor ds m s → Fits (world_of ds m s) (sorting_of ds)
 
 -- the value of a well-sorted term is an element of its sort
 abbrev pub ValuesStayInRange : Type 0

@@ -5,7 +5,7 @@ use Rattle.soqe_term.specs.declared.bindings.Bound.{Bound}
 use Rattle.soqe_term.specs.declared.term.Var.{Var}
 use Rattle.soqe_term.specs.declared.term.Term.{Term, Var as var, App}
 use Rattle.soqe_term.specs.declared.term.Terms.{Terms, Nil, Cons', end_of-Term as end, more_of-Term as one, end_of-Terms as ends, more_of-Terms as ones}
-use Rattle.soqe_term.specs.Unused.{member}
+use Rattle.soqe_number.specs.Unused.{member}
 use Rattle.soqe_term.specs.Sorting.{own_sort}
 use Rattle.soqe_term.specs.Bindings.{bound_term}
 use Rattle.soqe_term.specs.Equal.{equal_symbols, equal_terms}

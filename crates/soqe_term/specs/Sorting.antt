@@ -4,7 +4,7 @@ use Rattle.soqe_term.specs.declared.term.Sym.{Sym}
 use Rattle.soqe_term.specs.declared.term.Sym.TheVariants.{Fun, Skolem}
 use Rattle.soqe_term.specs.declared.term.Term.{Term, Var as var, App}
 use Rattle.soqe_term.specs.declared.term.Terms.{Terms, Nil, Cons', end_of-Term as end, more_of-Term as one, end_of-Terms as ends, more_of-Terms as ones}
-use Rattle.soqe_term.specs.World.{changed}
+use Rattle.soqe_number.specs.Updates.{changed}
 
 -- the sorts of a function's arguments, and of its values
 pub record FunSort : Type 0 where
@@ -68,3 +68,7 @@ abbrev mutual
   sorted_terms e Nil (s ∷ sorts) = false
   sorted_terms e (Cons' _ (one t end) _ (ones ts ends)) [] = false
   sorted_terms e (Cons' _ (one t end) _ (ones ts ends)) (s ∷ sorts) = sorted_term e t && (eqb (own_sort t) s && sorted_terms e ts sorts)
+
+-- the sorting that knows these sorts of variables
+abbrev pub over_vars : Sorting → (ℕ → Option ℕ) → Sorting
+over_vars e v = record e { variable = v }

@@ -1,5 +1,6 @@
 -- What gives terms and formulas their meaning.
-use Rattle.std.specs.Prelude.{ℕ, Bool, List, eqb, cond}
+use Rattle.std.specs.Prelude.{ℕ, Bool, List}
+use Rattle.soqe_number.specs.Updates.{changed}
 
 -- The sizes of the sorts; the functions, Skolem functions, declared and bound predicates, each as a function of its
 -- number and the list of its arguments; and the element of each variable. The elements of a sort of size n are the
@@ -11,10 +12,6 @@ pub record World : Type 0 where
   pub declared : ℕ → List ℕ → Bool
   pub bound : ℕ → List ℕ → Bool
   pub element : ℕ → ℕ
-
--- a function of numbers, changed at one number
-abbrev pub changed : {A : Type 0} → (ℕ → A) → ℕ → A → ℕ → A
-changed f x v n = cond (eqb n x) v (f n)
 
 -- the world with another element for one variable
 abbrev pub with_var : World → ℕ → ℕ → World

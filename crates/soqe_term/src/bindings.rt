@@ -2,7 +2,8 @@
 ghost use Rattle.std.specs.Prelude.{◌≡◌, ◌++◌, ◌∷◌, [], ◌<◌, ◌+◌, take, length, slice_get, Some, None, IfOk, OnOk, OnErr, MatchOption};
 ghost use Rattle.soqe_term.specs.Bindings.{bound_term, HasDistinctVars};
 
-use crate::{Mem, Term, Var};
+use soqe_number::Mem;
+use crate::{Term, Var};
 use indexmap::IndexMap;
 use std::alloc::Global;
 use std::marker::Model;

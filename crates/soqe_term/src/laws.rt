@@ -1,19 +1,14 @@
 //! Laws of the definitions: each is a clause of a function that does nothing.
 
 ghost use Rattle.std.specs.Prelude.{◌≡◌, true, false, [], ◌∷◌, Some, None, nat_lt};
-ghost use Rattle.soqe_term.specs.Value.{value};
-ghost use Rattle.soqe_term.specs.Finite.{every, some, product, place, entry};
-ghost use Rattle.soqe_term.specs.Ranges.{tabulated};
-ghost use Rattle.soqe_term.specs.Sorting.{sorted_term};
-ghost use Rattle.soqe_term.specs.Declarations.{sorting_of};
-ghost use Rattle.soqe_term.specs.Laws.{StructuresFit, ValuesStayInRange, RangeDecidesValues, TablesAreWhole, TablesGiveBack};
+ghost use Rattle.soqe_number.specs.Finite.{every, some, product, place, entry};
+ghost use Rattle.soqe_number.specs.Ranges.{tabulated};
+ghost use Rattle.soqe_term.specs.Laws.{ValuesStayInRange, RangeDecidesValues, TablesAreWhole, TablesGiveBack};
 ghost use Rattle.soqe_term.specs.Matching.{MatchesAreUnique};
 ghost use Rattle.soqe_term.specs.RenumberLaws.{RenumberedHasValue, RenumberedIsSorted};
-ghost use Rattle.soqe_term.specs.Samples.{small_signature, small_world, x_term, twice};
 
-/// What a world that fits gives to well-sorted terms; the worlds of finite structures fit.
+/// What a world that fits gives to well-sorted terms.
 pub fn worlds()
-    ensures structures { StructuresFit }
     ensures in_range { ValuesStayInRange }
     ensures range { RangeDecidesValues }
 {}
@@ -37,9 +32,6 @@ pub fn renumberings()
 
 /// The definitions on small cases.
 pub fn samples()
-    ensures value { value small_world x_term ≡ 1 }
-    ensures applied { value small_world twice ≡ 0 }
-    ensures well_sorted { sorted_term (sorting_of small_signature) twice ≡ true }
     ensures product { product (2 ∷ 3 ∷ []) ≡ 6 }
     ensures place { place (2 ∷ 3 ∷ []) (1 ∷ 0 ∷ []) ≡ 3 }
     ensures entry { entry (2 ∷ 3 ∷ []) (false ∷ false ∷ false ∷ true ∷ []) (1 ∷ 0 ∷ []) ≡ true }

@@ -3,12 +3,13 @@
 
 ghost use Rattle.std.specs.Prelude.{◌≡◌, Some, None, cond, List, IfOk, MatchOption};
 ghost use Rattle.soqe_term.specs.declared.bindings.Bound.{Bound};
-ghost use Rattle.soqe_term.specs.Unused.{member};
+ghost use Rattle.soqe_number.specs.Unused.{member};
 ghost use Rattle.soqe_term.specs.Bindings.{bound_term};
 ghost use Rattle.soqe_term.specs.Matching.{IsMatch};
 ghost use Rattle.soqe_term.specs.Matched.{matched, matched_all, matched_var, matched_free};
 
-use crate::{Binding, Mem, Nums, Term, Terms, Var};
+use crate::{Binding, Term, Terms, Var};
+use soqe_number::{Mem, Nums};
 use std::alloc::Global;
 
 /// The binding that makes the pattern the term: the given one, and behind it the variables of the pattern that are neither

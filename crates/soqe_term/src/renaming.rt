@@ -2,10 +2,11 @@
 #![tactic(auto, unfolding(crate::specs::Boxes::boxes))]
 
 ghost use Rattle.std.specs.Prelude.{◌≡◌, IfOk, OnOk};
-ghost use Rattle.soqe_term.specs.World.{changed};
+ghost use Rattle.soqe_number.specs.Updates.{changed};
 ghost use Rattle.soqe_term.specs.Renumber.{renames, numbered, renumbered, all_renumbered};
 
-use crate::{Mem, SmallMap, Term, Terms, Var};
+use soqe_number::{Mem, SmallMap};
+use crate::{Term, Terms, Var};
 use sqlite_items::Boxed;
 use std::alloc::Global;
 use std::marker::Model;

@@ -6,7 +6,8 @@ ghost use Rattle.soqe_term.specs.Sorting.{own_sort};
 ghost use Rattle.soqe_term.specs.Bindings.{bound_in, all_bound_in, HasValueOfBound, KeepsSortOfBound};
 ghost use Rattle.soqe_term.specs.Subst.{replaced, all_replaced, HasValueOfReplaced, KeepsSort};
 
-use crate::{Binding, Mem, Term, Terms, Var};
+use crate::{Binding, Term, Terms, Var};
+use soqe_number::Mem;
 use sqlite_items::Boxed;
 use std::alloc::Global;
 

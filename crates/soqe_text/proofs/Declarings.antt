@@ -9,12 +9,12 @@ use Rattle.soqe_syntax.specs.Grammar as syntax
 use Rattle.soqe_syntax.specs.Pieces.{text_at}
 use Rattle.soqe_syntax.specs.declared.shape.Item.{Item}
 use Rattle.soqe_syntax.specs.Shapes.{declared_view}
-use Rattle.soqe_term.specs.declared.kinds.Kind.{Kind}
-use Rattle.soqe_term.specs.declared.kinds.Kind.TheVariants as kind
-use Rattle.soqe_term.specs.declared.kinds.NameKind.TheVariants as numbering
-use Rattle.soqe_term.specs.Declarations.{Declaration, Found, numbering_of, of_numbering, count_of, lookup, name_from}
-use Rattle.soqe_term.specs.Declares.{first_unknown, sorts_named}
-use Rattle.soqe_term.proofs.Declared.{name_of-lookup, of_numbering-push}
+use Rattle.soqe_signature.specs.declared.kinds.Kind.{Kind}
+use Rattle.soqe_signature.specs.declared.kinds.Kind.TheVariants as kind
+use Rattle.soqe_signature.specs.declared.kinds.NameKind.TheVariants as numbering
+use Rattle.soqe_signature.specs.Declarations.{Declaration, Found, numbering_of, of_numbering, count_of, lookup, name_from}
+use Rattle.soqe_signature.specs.Declares.{first_unknown, sorts_named}
+use Rattle.soqe_signature.proofs.Declared.{name_of-lookup, of_numbering-push}
 use Rattle.soqe_text.specs.NewNames.{IsDeclared}
 use Rattle.soqe_text.specs.Naming.{sort_of_found, sort_number, sort_numbers, kind_declared, then_named, named_declared, all_named_declared}
 

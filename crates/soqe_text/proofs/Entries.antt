@@ -6,9 +6,10 @@ use Rattle.std.proofs.lemmas.Option.{none-some}
 use Rattle.std.proofs.lemmas.Slice.Eq.{bytes_eq-Decides}
 use Rattle.std.specs.Option.{unwrap_or}
 use Rattle.std.specs.Str.{bytes_eq}
-use Rattle.soqe_term.specs.declared.kinds.Kind.TheVariants as kind
-use Rattle.soqe_term.specs.Declarations.{Declaration, Found, numbering_of, same_numbering, of_numbering, count_of, lookup, lookup_behind, fun_sort_from, fun_sort_of, pred_sorts_from, pred_sorts_of, free_sort_from, free_sort_of}
-use Rattle.soqe_term.proofs.Declared.{slice_get-append, numbered-new}
+use Rattle.soqe_signature.specs.declared.kinds.Kind.TheVariants as kind
+use Rattle.soqe_signature.specs.Declarations.{Declaration, Found, numbering_of, same_numbering, of_numbering, count_of, lookup, lookup_behind, fun_sort_from, fun_sort_of, pred_sorts_from, pred_sorts_of, free_sort_from, free_sort_of}
+use Rattle.soqe_signature.proofs.Declared.{numbered-new}
+use Rattle.soqe_number.proofs.Slices.{slice_get-append}
 
 entry_behind : (passed ds : List Declaration) (name : List ℕ) (f : Found) → lookup_behind passed ds name ≡ Some f
     → slice_get (of_numbering (numbering_of f.kind) (passed ++ ds)) f.num ≡ Some (record { name = name; kind = f.kind })

@@ -6,9 +6,9 @@ use Rattle.std.specs.Option.{unwrap_or}
 use Rattle.std.proofs.lemmas.Bool.{eqb-true}
 use Rattle.soqe_term.specs.declared.term.Sym.{Sym}
 use Rattle.soqe_term.specs.declared.term.Sym.TheVariants.{Fun, Skolem}
-use Rattle.soqe_term.specs.Declarations.{Declaration, lookup}
-use Rattle.soqe_term.specs.World.{changed}
-use Rattle.soqe_term.proofs.Renumbered.{eqb_sym}
+use Rattle.soqe_signature.specs.Declarations.{Declaration, lookup}
+use Rattle.soqe_number.specs.Updates.{changed}
+use Rattle.soqe_number.proofs.Equalities.{eqb_sym}
 use Rattle.soqe_text.specs.declared.lookup.Meaning.{Meaning}
 use Rattle.soqe_text.specs.Lookups.{found_of, IsNamedBy, Places, ByList, ByNumber, known_at, with_known, entered}
 use Rattle.soqe_text.specs.Meanings.{symbol_of, symbol_in}

@@ -9,14 +9,14 @@ use Rattle.std.specs.Char.{is_ascii_alphabetic, is_ascii_digit}
 use Rattle.std.specs.List.{position_from, list_all}
 use Rattle.std.specs.Str.{bytes_eq, IsUtf8}
 use Rattle.std.proofs.lemmas.Str.{IsUtf8-from_ascii}
-use Rattle.soqe_lex.specs.Lexical.{is_ordinary, is_word}
-use Rattle.soqe_term.specs.declared.kinds.Kind.{Kind}
-use Rattle.soqe_term.specs.declared.kinds.NameKind.TheVariants as numbering
-use Rattle.soqe_term.specs.declared.kinds.DeclareFault.{DeclareFault}
-use Rattle.soqe_term.specs.declared.kinds.DeclareFault.TheVariants as fault
-use Rattle.soqe_term.specs.Declarations.{Declaration, Found, numbering_of, of_numbering, count_of, lookup, lookup_behind, place_of, name_from}
-use Rattle.soqe_term.specs.Declares.{first_unknown, sorts_named, unknown_fault, fault_at, fault_of, Declares}
-use Rattle.soqe_term.proofs.Declared.{count_of-le, name_of-lookup}
+use Rattle.soqe_name.specs.Names.{is_ordinary, is_word}
+use Rattle.soqe_signature.specs.declared.kinds.Kind.{Kind}
+use Rattle.soqe_signature.specs.declared.kinds.NameKind.TheVariants as numbering
+use Rattle.soqe_signature.specs.declared.kinds.DeclareFault.{DeclareFault}
+use Rattle.soqe_signature.specs.declared.kinds.DeclareFault.TheVariants as fault
+use Rattle.soqe_signature.specs.Declarations.{Declaration, Found, numbering_of, of_numbering, count_of, lookup, lookup_behind, place_of, name_from}
+use Rattle.soqe_signature.specs.Declares.{first_unknown, sorts_named, unknown_fault, fault_at, fault_of, Declares}
+use Rattle.soqe_signature.proofs.Declared.{count_of-le, name_of-lookup}
 use Rattle.soqe_text.specs.NewNames.{is_new, OnRefusedName, name_fault_of}
 
 and-left : (a b : Bool) → (a && b) ≡ true → a ≡ true

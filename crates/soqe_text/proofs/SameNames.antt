@@ -5,15 +5,15 @@ use Rattle.std.specs.Option.{option_or}
 use Rattle.soqe_syntax.specs.declared.piece.Span.{Span}
 use Rattle.soqe_syntax.specs.Grammar as syntax
 use Rattle.soqe_syntax.specs.Pieces.{text_at}
-use Rattle.soqe_term.specs.declared.skolems.SkolemSig.{SkolemSig}
+use Rattle.soqe_signature.specs.declared.skolems.SkolemSig.{SkolemSig}
 use Rattle.soqe_term.specs.declared.term.Sym.{Sym}
 use Rattle.soqe_term.specs.declared.term.Sym.TheVariants.{Fun}
 use Rattle.soqe_term.specs.declared.term.Terms.{Terms, Nil, Cons}
 use Rattle.soqe_term.specs.declared.term.Var.{Var}
-use Rattle.soqe_term.specs.Declarations.{Declaration, Found, lookup}
+use Rattle.soqe_signature.specs.Declarations.{Declaration, Found, lookup}
 use Rattle.soqe_form.specs.declared.form.PVar.{PVar}
 use Rattle.soqe_form.specs.declared.form.Form.{Form, Equal, Atom, Not}
-use Rattle.soqe_form.specs.Scope.{sort_among, sorts_among}
+use Rattle.soqe_signature.specs.Scope.{sort_among, sorts_among}
 use Rattle.soqe_text.specs.Lookups.{Places, ByList, ByNumber, known_at, with_known}
 use Rattle.soqe_text.specs.Meanings.{Names, form_names, found_in, symbol_in}
 use Rattle.soqe_text.specs.Naming.{sort_numbers_by}

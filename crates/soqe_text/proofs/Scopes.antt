@@ -7,8 +7,8 @@ use Rattle.std.proofs.lemmas.Option.{get_or_from_slice_get, slice_get_within}
 use Rattle.std.proofs.Math.Seq.{take-length}
 use Rattle.std.specs.List.{list_any}
 use Rattle.std.specs.Option.{unwrap_or}
-use Rattle.soqe_term.specs.World.{changed}
-use Rattle.soqe_term.proofs.Renumbered.{eqb_sym}
+use Rattle.soqe_number.specs.Updates.{changed}
+use Rattle.soqe_number.proofs.Equalities.{eqb_sym}
 use Rattle.soqe_text.specs.Scope.{times, IsCounted}
 
 positive : (m : ℕ) → nat_lt 0 (suc m) ≡ true

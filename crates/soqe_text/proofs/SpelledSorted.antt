@@ -14,16 +14,16 @@ use Rattle.soqe_syntax.specs.Grammar as syntax
 use Rattle.soqe_syntax.specs.Pieces.{text_at}
 use Rattle.soqe_term.specs.Boxes.{boxes as term_boxes}
 use Rattle.soqe_term.specs.declared.term.Var.{Var}
-use Rattle.soqe_term.specs.declared.skolems.SkolemSig.{SkolemSig}
+use Rattle.soqe_signature.specs.declared.skolems.SkolemSig.{SkolemSig}
 use Rattle.soqe_term.specs.declared.term.Sym.{Sym}
 use Rattle.soqe_term.specs.declared.term.Sym.TheVariants.{Fun, Skolem}
 use Rattle.soqe_term.specs.declared.term.Term.{Term, App}
 use Rattle.soqe_term.specs.declared.term.Terms.{Terms, Nil, Cons}
-use Rattle.soqe_term.specs.declared.kinds.Kind.{Kind}
-use Rattle.soqe_term.specs.declared.kinds.Kind.TheVariants as kind
-use Rattle.soqe_term.specs.World.{changed}
-use Rattle.soqe_term.specs.declared.kinds.NameKind.TheVariants as numbering
-use Rattle.soqe_term.specs.Declarations.{Declaration, Found, count_of, free_sort_of, sorting_of}
+use Rattle.soqe_signature.specs.declared.kinds.Kind.{Kind}
+use Rattle.soqe_signature.specs.declared.kinds.Kind.TheVariants as kind
+use Rattle.soqe_number.specs.Updates.{changed}
+use Rattle.soqe_signature.specs.declared.kinds.NameKind.TheVariants as numbering
+use Rattle.soqe_signature.specs.Declarations.{Declaration, Found, count_of, free_sort_of, sorting_of}
 use Rattle.soqe_term.specs.Sorting.{Sorting, over_var, over_bound, with_sorts, with_fun, sym_sort, is_sort, own_sort, sorted_term, sorted_terms}
 use Rattle.soqe_form.specs.Boxes.{boxes as form_boxes}
 use Rattle.soqe_form.specs.declared.form.PVar.{PVar}
@@ -31,7 +31,7 @@ use Rattle.soqe_form.specs.declared.form.Form.{Form, Equal, Atom, Not}
 use Rattle.soqe_form.specs.Sorted.{sorted}
 use Rattle.soqe_text.specs.declared.problem.Problem.{Problem}
 use Rattle.soqe_form.specs.Constants.{constant}
-use Rattle.soqe_form.specs.Scope.{sort_among, sorts_among, sorting_for}
+use Rattle.soqe_signature.specs.Scope.{sort_among, sorts_among, sorting_for}
 use Rattle.soqe_text.specs.Meanings.{Names, problem_names, form_names}
 use Rattle.soqe_text.specs.Naming.{sort_numbers_by}
 use Rattle.soqe_text.specs.Uses.{head, num_of_by, sort_found, no_arguments, arguments_found, predicate_found, sort_of_term_by, fits, behind_fitting, then_behind, behind_by, is_none_left, has_arguments_by, is_used_right_by, wrong_in_by, wrong_in_all_by, wrong_in_atom_by, differ, binder_sort_by, wrong_by, all_below, free_sorts, no_sorts}

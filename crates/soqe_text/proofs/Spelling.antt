@@ -9,7 +9,7 @@ use Rattle.soqe_syntax.specs.Grammar as syntax
 use Rattle.soqe_syntax.specs.Pieces.{HasProblem}
 use Rattle.soqe_syntax.specs.declared.shape.Item.{Item}
 use Rattle.soqe_syntax.specs.Shapes.{declared_view}
-use Rattle.soqe_term.specs.Declarations.{Declaration}
+use Rattle.soqe_signature.specs.Declarations.{Declaration}
 use Rattle.soqe_parse.specs.Faults.{IsFaultAt}
 use Rattle.soqe_parse.proofs.Places.{one_problem, fault_or_problem}
 use Rattle.soqe_text.specs.declared.problem.Problem.{Problem}

@@ -5,14 +5,14 @@ use Rattle.std.proofs.lemmas.Option.{none-some}
 use Rattle.std.specs.Option.{option_or}
 use Rattle.std.specs.Str.Parse.{digits_value}
 use Rattle.soqe_lex.specs.Lexical.{is_number}
-use Rattle.soqe_term.specs.declared.kinds.Kind.TheVariants as kind
-use Rattle.soqe_term.specs.declared.skolems.SkolemSig.{SkolemSig}
+use Rattle.soqe_signature.specs.declared.kinds.Kind.TheVariants as kind
+use Rattle.soqe_signature.specs.declared.skolems.SkolemSig.{SkolemSig}
 use Rattle.soqe_term.specs.declared.term.Var.{Var}
-use Rattle.soqe_term.specs.SkolemSigs.{skolem_sort_of}
+use Rattle.soqe_signature.specs.SkolemSigs.{skolem_sort_of}
 use Rattle.soqe_term.specs.Sorting.{FunSort, sym_sort}
-use Rattle.soqe_term.specs.Declarations.{Declaration, Found, lookup, pred_sorts_of}
+use Rattle.soqe_signature.specs.Declarations.{Declaration, Found, lookup, pred_sorts_of}
 use Rattle.soqe_form.specs.declared.form.PVar.{PVar}
-use Rattle.soqe_form.specs.Scope.{sorting_for}
+use Rattle.soqe_signature.specs.Scope.{sorting_for}
 use Rattle.soqe_text.specs.Meanings.{unnamed, skolem_found, tag_found, tagged_found, found_by_tag, found_in, symbol_of, symbol_in}
 use Rattle.soqe_text.proofs.Entries.{fun_found, pred_found}
 

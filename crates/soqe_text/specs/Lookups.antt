@@ -2,11 +2,11 @@
 use Rattle.std.specs.Prelude.{ℕ, ◌≡◌, List, Option, Some, None, get_or, set, nat_eq}
 use Rattle.std.specs.Map as map
 use Rattle.std.specs.Option.{unwrap_or}
-use Rattle.soqe_term.specs.declared.kinds.Kind.TheVariants as kind
+use Rattle.soqe_signature.specs.declared.kinds.Kind.TheVariants as kind
 use Rattle.soqe_term.specs.declared.term.Sym.{Sym}
 use Rattle.soqe_term.specs.declared.term.Sym.TheVariants.{Fun, Skolem}
-use Rattle.soqe_term.specs.Declarations.{Found, lookup}
-use Rattle.soqe_term.specs.World.{changed}
+use Rattle.soqe_signature.specs.Declarations.{Found, lookup}
+use Rattle.soqe_number.specs.Updates.{changed}
 use Rattle.soqe_text.specs.declared.lookup.Lookup.{Lookup}
 use Rattle.soqe_text.specs.declared.lookup.Lookup.TheVariants as look
 use Rattle.soqe_text.specs.declared.lookup.Meaning.{Meaning}

@@ -4,17 +4,17 @@ use Rattle.std.specs.Prelude.{ℕ, cond, nat_lt, ◌==◌, List, [], ◌∷◌, 
 use Rattle.std.specs.Option.{option_or}
 use Rattle.std.specs.Str.Parse.{digits_value}
 use Rattle.soqe_lex.specs.Lexical.{is_number}
-use Rattle.soqe_term.specs.declared.kinds.Kind.TheVariants as kind
-use Rattle.soqe_term.specs.declared.kinds.NameKind.TheVariants as numbering
-use Rattle.soqe_term.specs.declared.skolems.SkolemSig.{SkolemSig}
+use Rattle.soqe_signature.specs.declared.kinds.Kind.TheVariants as kind
+use Rattle.soqe_signature.specs.declared.kinds.NameKind.TheVariants as numbering
+use Rattle.soqe_signature.specs.declared.skolems.SkolemSig.{SkolemSig}
 use Rattle.soqe_term.specs.declared.term.Sym.{Sym}
 use Rattle.soqe_term.specs.declared.term.Sym.TheVariants.{Fun, Skolem}
 use Rattle.soqe_term.specs.declared.term.Var.{Var}
-use Rattle.soqe_term.specs.SkolemSigs.{skolem_sort_of}
+use Rattle.soqe_signature.specs.SkolemSigs.{skolem_sort_of}
 use Rattle.soqe_term.specs.Sorting.{FunSort}
-use Rattle.soqe_term.specs.Declarations.{Declaration, Found, lookup, count_of}
+use Rattle.soqe_signature.specs.Declarations.{Declaration, Found, lookup, count_of}
 use Rattle.soqe_form.specs.declared.form.PVar.{PVar}
-use Rattle.soqe_form.specs.Scope.{sort_among, sorts_among}
+use Rattle.soqe_signature.specs.Scope.{sort_among, sorts_among}
 
 -- What names stand for, and what a place knows of the sorts of its variables and of its bound predicates.
 pub record Names (V P : Type 0) : Type 0 where

@@ -6,9 +6,9 @@ use Rattle.std.specs.Option.{option_or}
 use Rattle.soqe_syntax.specs.declared.piece.Span.{Span}
 use Rattle.soqe_syntax.specs.Grammar as syntax
 use Rattle.soqe_syntax.specs.Pieces.{text_at}
-use Rattle.soqe_term.specs.declared.kinds.Kind.{Kind}
-use Rattle.soqe_term.specs.declared.kinds.Kind.TheVariants as kind
-use Rattle.soqe_term.specs.Declarations.{Declaration, Found, lookup, count_of, numbering_of}
+use Rattle.soqe_signature.specs.declared.kinds.Kind.{Kind}
+use Rattle.soqe_signature.specs.declared.kinds.Kind.TheVariants as kind
+use Rattle.soqe_signature.specs.Declarations.{Declaration, Found, lookup, count_of, numbering_of}
 use Rattle.soqe_text.specs.declared.entering.Place.{Place}
 use Rattle.soqe_text.specs.declared.entering.Place.TheVariants as place
 use Rattle.soqe_text.specs.NewNames.{is_new, with_declared, Entered, first_declared}

@@ -1,11 +1,11 @@
 -- New names: which may join the declarations, and the declarations with one more.
 use Rattle.std.specs.Prelude.{◌≡◌, ℕ, Bool, true, false, List, [], ◌∷◌, ◌++◌, Some, None, codes, Result, Err}
-use Rattle.soqe_lex.specs.Lexical.{is_ordinary}
-use Rattle.soqe_term.specs.declared.kinds.Kind.{Kind}
-use Rattle.soqe_term.specs.declared.kinds.Kind.TheVariants as kind
-use Rattle.soqe_term.specs.declared.kinds.DeclareFault.{DeclareFault}
-use Rattle.soqe_term.specs.declared.kinds.DeclareFault.TheVariants as fault
-use Rattle.soqe_term.specs.Declarations.{Declaration, lookup, count_of, numbering_of}
+use Rattle.soqe_name.specs.Names.{is_ordinary}
+use Rattle.soqe_signature.specs.declared.kinds.Kind.{Kind}
+use Rattle.soqe_signature.specs.declared.kinds.Kind.TheVariants as kind
+use Rattle.soqe_signature.specs.declared.kinds.DeclareFault.{DeclareFault}
+use Rattle.soqe_signature.specs.declared.kinds.DeclareFault.TheVariants as fault
+use Rattle.soqe_signature.specs.Declarations.{Declaration, lookup, count_of, numbering_of}
 use Rattle.soqe_text.specs.declared.new_names.NameFault.{NameFault}
 use Rattle.soqe_text.specs.declared.new_names.NameFault.TheVariants as name_fault
 

@@ -1,6 +1,6 @@
 -- Well sorted problems.
 use Rattle.std.specs.Prelude.{◌≡◌, true}
-use Rattle.soqe_term.specs.Declarations.{sorting_of}
+use Rattle.soqe_signature.specs.Declarations.{sorting_of}
 use Rattle.soqe_form.specs.Sorted.{sorted}
 use Rattle.soqe_text.specs.declared.problem.Problem.{Problem}
 use Rattle.soqe_text.specs.declared.problem.Problem.TheVariants as problem

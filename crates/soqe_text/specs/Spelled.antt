@@ -3,7 +3,7 @@ use Rattle.std.specs.Prelude.{◌≡◌, ℕ, List, Some, None, Result, Ok, Err}
 use Rattle.soqe_syntax.specs.declared.piece.Span.{Span}
 use Rattle.soqe_syntax.specs.Grammar as syntax
 use Rattle.soqe_syntax.specs.Pieces.{HasProblem}
-use Rattle.soqe_term.specs.Declarations.{Declaration}
+use Rattle.soqe_signature.specs.Declarations.{Declaration}
 use Rattle.soqe_text.specs.declared.problem.Problem.{Problem}
 use Rattle.soqe_text.specs.declared.problem.Problem.TheVariants as problem
 use Rattle.soqe_text.specs.declared.lexing.TextFault.{TextFault}

@@ -5,12 +5,12 @@ use Rattle.std.specs.Option.{option_or}
 use Rattle.soqe_syntax.specs.declared.piece.Span.{Span}
 use Rattle.soqe_syntax.specs.Grammar as syntax
 use Rattle.soqe_syntax.specs.Pieces.{text_at}
-use Rattle.soqe_term.specs.declared.skolems.SkolemSig.{SkolemSig}
+use Rattle.soqe_signature.specs.declared.skolems.SkolemSig.{SkolemSig}
 use Rattle.soqe_term.specs.declared.term.Var.{Var}
-use Rattle.soqe_term.specs.Declarations.{Declaration, Found}
+use Rattle.soqe_signature.specs.Declarations.{Declaration, Found}
 use Rattle.soqe_form.specs.declared.form.PVar.{PVar}
 use Rattle.soqe_form.specs.declared.form.Form.{Form}
-use Rattle.soqe_form.specs.Scope.{sorting_for}
+use Rattle.soqe_signature.specs.Scope.{sorting_for}
 use Rattle.soqe_form.specs.Sorted.{sorted}
 use Rattle.soqe_parse.specs.Formulas.{HasForm, IsFormFaultAt}
 use Rattle.soqe_text.specs.declared.entering.Place.{Place}

@@ -7,9 +7,9 @@ use Rattle.std.specs.Option.{option_or}
 use Rattle.soqe_syntax.specs.declared.piece.Span.{Span}
 use Rattle.soqe_syntax.specs.Grammar as syntax
 use Rattle.soqe_syntax.specs.Pieces.{text_at}
-use Rattle.soqe_term.specs.declared.kinds.Kind.TheVariants as kind
-use Rattle.soqe_term.specs.declared.kinds.NameKind.TheVariants as numbering
-use Rattle.soqe_term.specs.Declarations.{Declaration, Found, count_of, free_sort_of}
+use Rattle.soqe_signature.specs.declared.kinds.Kind.TheVariants as kind
+use Rattle.soqe_signature.specs.declared.kinds.NameKind.TheVariants as numbering
+use Rattle.soqe_signature.specs.Declarations.{Declaration, Found, count_of, free_sort_of}
 use Rattle.soqe_text.specs.Meanings.{Names, problem_names}
 use Rattle.soqe_text.specs.Naming.{sort_number_by, sort_numbers_by, start_of}
 

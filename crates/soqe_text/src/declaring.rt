@@ -2,8 +2,8 @@
 ghost use Rattle.std.specs.Prelude.{◌≡◌, ◌<◌, Ok, Err, map, IfOk, OnOk};
 ghost use Rattle.std.specs.Option.{option_or};
 ghost use Rattle.soqe_syntax.specs.Shapes.{declared_view};
-ghost use Rattle.soqe_term.specs.declared.kinds.NameKind.TheVariants as numbering;
-ghost use Rattle.soqe_term.specs.Declarations.{count_of};
+ghost use Rattle.soqe_signature.specs.declared.kinds.NameKind.TheVariants as numbering;
+ghost use Rattle.soqe_signature.specs.Declarations.{count_of};
 ghost use Rattle.soqe_text.specs.Lookups.{found_by};
 ghost use Rattle.soqe_text.specs.Naming.{sort_number_by, sort_numbers_by, name_declared, kind_declared, unknown_name_by, unknown_of_by, unknown_in_declared, named_declared, all_named_declared};
 ghost use Rattle.soqe_text.specs.Refused.{OnRefusedAt};
@@ -15,7 +15,8 @@ use crate::refused::Refused;
 use crate::scope::Scope;
 use crate::spans::text;
 use soqe_syntax::{Item, Span, Spans};
-use soqe_term::{Kind, Mem, Signature, Sorts};
+use soqe_signature::{Kind, Signature};
+use soqe_number::{Mem, Sorts};
 use std::alloc::Global;
 
 /// The number of a sort by its name; a name that is no sort's counts as `obj`.

@@ -3,13 +3,13 @@ ghost use Rattle.std.specs.Prelude.{◌≡◌, None, Some, IfOk};
 ghost use Rattle.soqe_text.specs.Naming.{variable_place, predicate_place, variable_entered, predicate_entered, entered_at};
 ghost use Rattle.soqe_text.specs.NewNames.{OnRefusedName};
 ghost use Rattle.soqe_text.specs.Lookups.{found_by};
-ghost use Rattle.soqe_term.specs.Declares.{first_unknown, sorts_named};
-ghost use Rattle.soqe_term.specs.Declarations.{count_of};
-ghost use Rattle.soqe_term.specs.declared.kinds.NameKind.TheVariants as numbering;
+ghost use Rattle.soqe_signature.specs.Declares.{first_unknown, sorts_named};
+ghost use Rattle.soqe_signature.specs.Declarations.{count_of};
+ghost use Rattle.soqe_signature.specs.declared.kinds.NameKind.TheVariants as numbering;
 
 use crate::lookup::{Lookup, Meaning, found};
 use crate::new_names::{NameFault, declare};
-use soqe_term::{Kind, Signature};
+use soqe_signature::{Kind, Signature};
 
 /// What a name is where a binder has it.
 #[derive(Clone, Copy, Debug, PartialEq, Eq)]

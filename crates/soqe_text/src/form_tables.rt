@@ -1,6 +1,6 @@
 //! The tables by which a formula by itself is read, and what they say outside all binders.
 ghost use Rattle.std.specs.Prelude.{◌≡◌, map, IfOk};
-ghost use Rattle.soqe_form.specs.Scope.{sort_among, sorts_among};
+ghost use Rattle.soqe_signature.specs.Scope.{sort_among, sorts_among};
 ghost use Rattle.soqe_form.specs.declared.form.PVar.{PVar};
 ghost use Rattle.soqe_term.specs.declared.term.Var.{Var as OneVar};
 ghost use Rattle.soqe_text.specs.Lookups.{ByNumber, places};
@@ -9,7 +9,9 @@ use crate::known::{Known, put};
 use crate::scope::Scope;
 use indexmap::IndexMap;
 use soqe_form::{PVar, PVars};
-use soqe_term::{Mem, Signature, SkolemSigs, Sorts, Var, Vars};
+use soqe_number::{Mem, Sorts};
+use soqe_signature::{Signature, SkolemSigs};
+use soqe_term::{Var, Vars};
 use std::alloc::Global;
 
 /// The declarations and names of a problem, Skolem functions, and the free variables and free bound predicates.

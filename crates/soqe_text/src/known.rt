@@ -1,10 +1,10 @@
 //! What is known of numbers at a place: the sorts of variables, the argument sorts of bound predicates.
 ghost use Rattle.std.specs.Prelude.{◌≡◌, None, Some, get_or, set, IfOk, OnOk, OnErr, MatchOption};
-ghost use Rattle.soqe_term.specs.World.{changed};
+ghost use Rattle.soqe_number.specs.Updates.{changed};
 ghost use Rattle.soqe_text.specs.Lookups.{entered, known_at, places, with_known};
 
 use indexmap::IndexMap;
-use soqe_term::Mem;
+use soqe_number::Mem;
 use std::alloc::AllocError;
 use std::mem;
 

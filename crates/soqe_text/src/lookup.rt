@@ -1,16 +1,17 @@
 //! What the names of a text stand for: by the declarations of a problem, or, for a formula by itself, by these, a table of
 //! Skolem functions and the tagged names.
 ghost use Rattle.std.specs.Prelude.{◌≡◌, ◌<◌, ◌^◌, None, Some, IfSome, MatchOption};
-ghost use Rattle.soqe_term.specs.declared.kinds.NameKind.TheVariants as numbering;
+ghost use Rattle.soqe_signature.specs.declared.kinds.NameKind.TheVariants as numbering;
 ghost use Rattle.soqe_term.specs.declared.term.Sym.TheVariants.{Fun, Skolem};
-ghost use Rattle.soqe_term.specs.declared.kinds.Kind.TheVariants as kind;
-ghost use Rattle.soqe_term.specs.Declarations.{lookup, count_of};
-ghost use Rattle.soqe_term.specs.SkolemSigs.{skolem_sort_of};
+ghost use Rattle.soqe_signature.specs.declared.kinds.Kind.TheVariants as kind;
+ghost use Rattle.soqe_signature.specs.Declarations.{lookup, count_of};
+ghost use Rattle.soqe_signature.specs.SkolemSigs.{skolem_sort_of};
 ghost use Rattle.soqe_text.specs.Meanings.{found_by_tag, tag_found, tagged_found, skolem_found, unnamed};
 ghost use Rattle.soqe_text.specs.Lookups.{found_by, symbol_by, found_of, IsNamedBy};
 
 use crate::number::number;
-use soqe_term::{Kind, NameKind, Signature, SkolemSigs, Sorts};
+use soqe_signature::{Kind, NameKind, Signature, SkolemSigs};
+use soqe_number::Sorts;
 
 /// By what names are looked up.
 #[derive(Drop)]

@@ -14,7 +14,7 @@ use crate::refused::Refused;
 use crate::scope::Scope;
 use crate::spans::text;
 use soqe_syntax::{Equated, Expr, Exprs, PredicateBinder, Shape, Span, Spans, VariableBinder};
-use soqe_term::Signature;
+use soqe_signature::Signature;
 
 /// Whether a name may be used.
 fn is_usable(look: &Lookup, vars: &Scope, preds: &Scope, name: &[u8]) -> bool

@@ -1,11 +1,11 @@
 //! New names, which join the signature.
 ghost use Rattle.std.specs.Prelude.{◌≡◌, ◌<◌, ◌-◌, ◌^◌, length, None, false, IfOk};
-ghost use Rattle.soqe_term.specs.declared.kinds.NameKind.TheVariants as numbering;
-ghost use Rattle.soqe_term.specs.Declarations.{count_of};
-ghost use Rattle.soqe_term.specs.Declares.{first_unknown, sorts_named};
+ghost use Rattle.soqe_signature.specs.declared.kinds.NameKind.TheVariants as numbering;
+ghost use Rattle.soqe_signature.specs.Declarations.{count_of};
+ghost use Rattle.soqe_signature.specs.Declares.{first_unknown, sorts_named};
 ghost use Rattle.soqe_text.specs.NewNames.{is_new, IsDeclared, OnRefusedName, name_fault_of};
 
-use soqe_term::{DeclareFault, Kind, Signature};
+use soqe_signature::{DeclareFault, Kind, Signature};
 use std::str::from_utf8;
 
 /// Why a name doesn't join the signature.

@@ -23,7 +23,8 @@ use soqe_form::{Form, PVar, make};
 use soqe_syntax::{
     Equated, Expr, Operator, PredicateBinder, Quantifier, Shape, Span, VariableBinder,
 };
-use soqe_term::{Mem, Sorts, Var};
+use soqe_number::{Mem, Sorts};
+use soqe_term::Var;
 use sqlite_items::Boxed;
 use std::alloc::Global;
 

@@ -2,7 +2,8 @@
 ghost use Rattle.std.specs.Prelude.{◌≡◌, IfOk};
 
 use soqe_form::Form;
-use soqe_term::{Mem, Signature};
+use soqe_number::Mem;
+use soqe_signature::Signature;
 use std::alloc::Global;
 
 /// A problem of the suite.

@@ -28,7 +28,8 @@ use crate::uses::{no_sort, no_sort_in};
 use soqe_form::Form;
 use soqe_parse::{ProblemShape, ShapeError, read_problem_shape};
 use soqe_syntax::{Item, Shape, Span, Spans};
-use soqe_term::{Mem, NameKind, Signature, Sorts};
+use soqe_number::{Mem, Sorts};
+use soqe_signature::{NameKind, Signature};
 use sqlite_items::Boxed;
 use std::alloc::Global;
 

@@ -1,6 +1,6 @@
 //! Formulas by themselves: from the bytes of a text to a formula with numbers, or to the place where the text is refused.
 ghost use Rattle.std.specs.Prelude.{◌≡◌, None, Some, true, IfOk, OnOk};
-ghost use Rattle.soqe_form.specs.Scope.{sorting_for};
+ghost use Rattle.soqe_signature.specs.Scope.{sorting_for};
 ghost use Rattle.soqe_form.specs.Sorted.{sorted};
 ghost use Rattle.soqe_parse.specs.Formulas.{HasForm, IsFormFaultAt};
 ghost use Rattle.soqe_syntax.specs.Shapes.{view};
@@ -19,7 +19,8 @@ use crate::refused::Refused;
 use soqe_form::{Form, PVars};
 use soqe_parse::{ShapeError, read_form_shape};
 use soqe_syntax::Shape;
-use soqe_term::{Signature, SkolemSigs, Vars};
+use soqe_signature::{Signature, SkolemSigs};
+use soqe_term::Vars;
 use sqlite_items::Boxed;
 use std::alloc::Global;
 

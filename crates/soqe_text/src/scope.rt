@@ -6,7 +6,7 @@ ghost use Rattle.soqe_text.specs.Lookups.{entered};
 
 use crate::known::{mapped, put_mapped};
 use indexmap::IndexMap;
-use soqe_term::Mem;
+use soqe_number::Mem;
 use std::alloc::{AllocError, Global};
 use std::marker::Model;
 

@@ -13,7 +13,8 @@ use crate::spans::text;
 use crate::uses::sort_at;
 use soqe_form::{Form, Pred};
 use soqe_syntax::{Expr, Exprs};
-use soqe_term::{Mem, Sym, Term, Terms, Var};
+use soqe_number::Mem;
+use soqe_term::{Sym, Term, Terms, Var};
 use sqlite_items::Boxed;
 use std::alloc::Global;
 

@@ -9,7 +9,7 @@ use crate::known::{Known, known_of};
 use crate::lookup::{Lookup, Meaning, found};
 use crate::spans::text;
 use soqe_syntax::{Expr, Exprs, Span, Spans};
-use soqe_term::Sorts;
+use soqe_number::Sorts;
 
 /// The name at the head of a term or an atom.
 fn head(term: &Expr) -> Span

@@ -1,5 +1,6 @@
 //! Tables of texts, and the tokens that the rules give them.
-use soqe_lex::{TokenKind, is_ordinary, is_ordinary_str, lexemes};
+use soqe_lex::{TokenKind, lexemes};
+use soqe_name::{is_ordinary, is_ordinary_str};
 use std::alloc::Global;
 use std::fmt::Write;
 use std::test::Fail;

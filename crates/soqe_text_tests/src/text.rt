@@ -1,5 +1,5 @@
 //! Tables of texts, with what the reader says of them.
-use soqe_term::NameKind;
+use soqe_signature::NameKind;
 use soqe_text::{Command, Problem, TextFault, one_spelled, read_problem, spelled_sorted, tokens};
 use std::alloc::Global;
 use std::test::Fail;

@@ -1,11 +1,11 @@
 -- How often numbers stand among the new numbers of variables below a binder.
 use Rattle.std.proofs.Common.{◌≡◌, ℕ, ◌+◌, Bool, true, false, cond, eqb, not, List, [], ◌∷◌, refl, ◌∙◌, ap, arith}
 use Rattle.soqe_term.specs.declared.term.Var.{Var}
-use Rattle.soqe_term.specs.World.{changed}
-use Rattle.soqe_term.proofs.Renumbered.{eqb_sym}
+use Rattle.soqe_number.specs.Updates.{changed}
+use Rattle.soqe_number.proofs.Equalities.{eqb_sym}
 use Rattle.soqe_form.specs.FreeVars.{others}
-use Rattle.soqe_form.specs.Counts.{times}
-use Rattle.soqe_tally.specs.Numbers.{numbers}
+use Rattle.soqe_number.specs.Counts.{times}
+use Rattle.soqe_uses.specs.Numbers.{numbers}
 use Rattle.soqe_tidy.specs.Numbers.{new_numbers}
 
 change_step : (b c d e : Bool) (m : ℕ) (y : Var) (l t : ℕ) (rs : List Var) (r : ℕ → ℕ) → b ≡ c → eqb m (r y.num) ≡ e → l ≡ cond d t 0 + times m (new_numbers r rs)

@@ -4,9 +4,9 @@ use Rattle.std.proofs.Math.Bool.{or-false}
 use Rattle.std.proofs.lemmas.List.{map-append, append-nil}
 use Rattle.std.proofs.lemmas.List.Elements.{filter-append}
 use Rattle.soqe_term.specs.declared.term.Var.{Var}
-use Rattle.soqe_term.specs.World.{changed}
+use Rattle.soqe_number.specs.Updates.{changed}
 use Rattle.soqe_term.proofs.Worlds.{changed-again, changed-same}
-use Rattle.soqe_form.specs.Marks.{marked}
+use Rattle.soqe_number.specs.Marks.{marked}
 use Rattle.soqe_form.specs.FreeVars.{others}
 use Rattle.soqe_tidy.specs.Numbers.{is_bound, new_numbers, unmarked, Lists}
 

@@ -7,9 +7,9 @@ use Rattle.soqe_term.specs.declared.term.Var.{Var}
 use Rattle.soqe_term.specs.declared.term.Term.{Term, Var as var, App}
 use Rattle.soqe_term.specs.declared.term.Terms.{Terms, Nil, Cons, Cons', end_of-Term as end-t, more_of-Term as one-t, end_of-Terms as ends-t, more_of-Terms as ones-t}
 use Rattle.soqe_term.specs.Boxes.{boxes as term_boxes}
-use Rattle.soqe_term.specs.World.{changed}
+use Rattle.soqe_number.specs.Updates.{changed}
 use Rattle.soqe_term.specs.Occurs.{occurs, occurs_any, AgreeOn, first_from}
-use Rattle.soqe_term.specs.Unused.{member}
+use Rattle.soqe_number.specs.Unused.{member}
 use Rattle.soqe_term.specs.Renumber.{numbered, renumbered, all_renumbered}
 use Rattle.soqe_term.proofs.Worlds.{eqb-self, changed-at, changed-off, agree-left, agree-right}
 use Rattle.soqe_form.specs.declared.form.Form.{Form, True, False, Equal, Atom, Not, Not', And, And', Or, Or', Imp, Imp', Iff, Iff', All, All', Ex, Ex', All2, All2', Ex2, Ex2', end_of-Form as end, more_of-Form as one}

@@ -4,24 +4,24 @@ use Rattle.std.proofs.lemmas.Bool.{both_ways}
 use Rattle.std.proofs.lemmas.List.{map-append}
 use Rattle.soqe_term.specs.declared.term.Var.{Var}
 use Rattle.soqe_term.specs.Renumber.{numbered, renames}
-use Rattle.soqe_term.specs.Unused.{member}
-use Rattle.soqe_term.specs.World.{changed}
+use Rattle.soqe_number.specs.Unused.{member}
+use Rattle.soqe_number.specs.Updates.{changed}
 use Rattle.soqe_term.proofs.Worlds.{changed-again, changed-same}
 use Rattle.soqe_form.specs.Boxes.{boxes}
 use Rattle.soqe_form.specs.declared.form.Form.{Form, And, Or, Imp, Iff}
-use Rattle.soqe_tally.specs.declared.unkept.Unkept.{Unkept}
-use Rattle.soqe_tally.specs.declared.tally.Tally.{Tally}
-use Rattle.soqe_form.specs.Marks.{IsLeastWithout}
-use Rattle.soqe_tally.specs.Unkept.{Keeps, IsLeastBeside}
+use Rattle.soqe_number.specs.declared.unkept.Unkept.{Unkept}
+use Rattle.soqe_number.specs.declared.tally.Tally.{Tally}
+use Rattle.soqe_number.specs.Marks.{IsLeastWithout}
+use Rattle.soqe_number.specs.Unkept.{Keeps, IsLeastBeside}
 use Rattle.soqe_form.specs.FreeVars.{others, free_occurrences}
 use Rattle.soqe_tidy.specs.Numbers.{new_numbers}
-use Rattle.soqe_tally.proofs.Tallied.{unknown}
-use Rattle.soqe_form.specs.Counts.{times}
-use Rattle.soqe_tally.specs.Tallies.{Gains, IsRight, IsRightIfKnown, Finds, Leaves}
+use Rattle.soqe_number.proofs.Tallied.{unknown}
+use Rattle.soqe_number.specs.Counts.{times}
+use Rattle.soqe_number.specs.Tallies.{Gains, IsRight, IsRightIfKnown, Finds, Leaves}
 use Rattle.soqe_tidy.specs.Tidy.{tidy_number, tidied}
-use Rattle.soqe_tally.specs.Uses.{uses, top, under, below, AreOnTop}
+use Rattle.soqe_uses.specs.Uses.{uses, top, under, below, AreOnTop}
 use Rattle.soqe_tidy.specs.Tidies.{Tidies, TidiesPart, TidiesBelow, IsOfLarger}
-use Rattle.soqe_form.proofs.Counted.{times-append}
+use Rattle.soqe_number.proofs.Counted.{times-append}
 use Rattle.soqe_tidy.proofs.TidyNumbers.{from_not, tidy_number-is}
 use Rattle.soqe_tidy.proofs.NumbersChanged.{times-changed}
 

@@ -7,14 +7,14 @@ use Rattle.std.proofs.lemmas.List.Folds.{list_any-append}
 use Rattle.std.proofs.lemmas.Bool.{cases_lt, eqb-true, or_cases, or_left, or_right, both_ways}
 use Rattle.soqe_term.specs.declared.term.Var.{Var}
 use Rattle.soqe_term.specs.Occurs.{first_from}
-use Rattle.soqe_term.specs.Unused.{member}
-use Rattle.soqe_term.proofs.Choices.{by_cases, bool_cases, or_none_second}
-use Rattle.soqe_term.proofs.Renumbered.{eqb_sym}
-use Rattle.soqe_term.proofs.Pigeons.{few_numbers, next_too}
+use Rattle.soqe_number.specs.Unused.{member}
+use Rattle.soqe_number.proofs.Choices.{by_cases, bool_cases, or_none_second}
+use Rattle.soqe_number.proofs.Equalities.{eqb_sym}
+use Rattle.soqe_number.proofs.Pigeons.{few_numbers, next_too}
 use Rattle.soqe_form.specs.declared.form.Form.{Form}
 use Rattle.soqe_form.specs.Free.{free}
 use Rattle.soqe_form.specs.FreeVars.{others, free_occurrences, is_among}
-use Rattle.soqe_form.specs.Marks.{IsLeastWithout}
+use Rattle.soqe_number.specs.Marks.{IsLeastWithout}
 use Rattle.soqe_tidy.specs.Numbers.{new_numbers}
 use Rattle.soqe_tidy.specs.Tidy.{is_taken, tidy_number}
 use Rattle.soqe_form.proofs.FreeVariables.{is_among-free_occurrences}

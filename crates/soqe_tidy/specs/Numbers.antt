@@ -1,7 +1,7 @@
 -- The new numbers of variables.
 use Rattle.std.specs.Prelude.{ℕ, ◌≡◌, Bool, ◌||◌, eqb, not, map, filter, List, ◌++◌, Option, Some, None}
 use Rattle.soqe_term.specs.declared.term.Var.{Var}
-use Rattle.soqe_form.specs.Marks.{marked}
+use Rattle.soqe_number.specs.Marks.{marked}
 
 -- the new numbers of variables
 abbrev pub new_numbers : (ℕ → ℕ) → List Var → List ℕ

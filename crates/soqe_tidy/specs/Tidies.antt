@@ -1,17 +1,17 @@
 -- What the walk that makes a formula tidy gives.
 use Rattle.std.specs.Prelude.{ℕ, ◌≡◌, Bool, true, false, List, ◌++◌}
 use Rattle.soqe_term.specs.declared.term.Var.{Var}
-use Rattle.soqe_term.specs.World.{changed}
+use Rattle.soqe_number.specs.Updates.{changed}
 use Rattle.soqe_term.specs.Renumber.{numbered, renames}
 use Rattle.soqe_form.specs.declared.form.Form.{Form}
-use Rattle.soqe_tally.specs.declared.unkept.Unkept.{Unkept}
-use Rattle.soqe_tally.specs.declared.tally.Tally.{Tally}
+use Rattle.soqe_number.specs.declared.unkept.Unkept.{Unkept}
+use Rattle.soqe_number.specs.declared.tally.Tally.{Tally}
 use Rattle.soqe_form.specs.FreeVars.{others, free_occurrences}
 use Rattle.soqe_tidy.specs.Numbers.{new_numbers}
-use Rattle.soqe_tally.specs.Unkept.{Keeps}
-use Rattle.soqe_tally.specs.Tallies.{IsRightIfKnown}
+use Rattle.soqe_number.specs.Unkept.{Keeps}
+use Rattle.soqe_number.specs.Tallies.{IsRightIfKnown}
 use Rattle.soqe_tidy.specs.Tidy.{tidy_number, tidied}
-use Rattle.soqe_tally.specs.Uses.{uses, top, under, below, AreOnTop}
+use Rattle.soqe_uses.specs.Uses.{uses, top, under, below, AreOnTop}
 
 -- The formula that was made is the tidied f, for the kept numbers, where the uses of its binders are on top and the tally is right,
 -- if it is known. The numbers of variables are given as before, and the uses of f are gone.

@@ -1,9 +1,9 @@
 -- A tidy formula: from the outside in, each binder of a variable has the least number that it can have.
 use Rattle.std.specs.Prelude.{ℕ, Bool, ◌||◌, not, eqb, ◌+◌, List, length}
 use Rattle.std.specs.List.{list_any}
-use Rattle.soqe_term.specs.World.{changed}
+use Rattle.soqe_number.specs.Updates.{changed}
 use Rattle.soqe_term.specs.Occurs.{first_from}
-use Rattle.soqe_term.specs.Unused.{member}
+use Rattle.soqe_number.specs.Unused.{member}
 use Rattle.soqe_term.specs.Renumber.{numbered, renumbered, all_renumbered}
 use Rattle.soqe_form.specs.declared.form.Form.{Form, True, False, Equal, Atom, Not, Not', And, And', Or, Or', Imp, Imp', Iff, Iff', All, All', Ex, Ex', All2, All2', Ex2, Ex2', end_of-Form as end, more_of-Form as one}
 use Rattle.soqe_form.specs.FreeVars.{free_occurrences, others}

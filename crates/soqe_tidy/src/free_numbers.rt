@@ -6,8 +6,10 @@ ghost use Rattle.soqe_term.specs.Renumber.{renames};
 ghost use Rattle.soqe_form.specs.FreeVars.{occurrences, all_occurrences, free_occurrences, others};
 ghost use Rattle.soqe_tidy.specs.Numbers.{is_bound, new_numbers, Lists};
 
-use soqe_form::{Form, Marks};
-use soqe_term::{Mem, Nums, Renaming, Term, Terms, Var};
+use soqe_form::Form;
+use soqe_number::Marks;
+use soqe_number::{Mem, Nums};
+use soqe_term::{Renaming, Term, Terms, Var};
 use sqlite_items::Boxed;
 use std::alloc::Global;
 

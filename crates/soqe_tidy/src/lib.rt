@@ -2,7 +2,7 @@
 //! free variable of its body.
 //!
 //! Read `specs/Tidy.antt` first: the tidy form of a formula. `specs/Laws.antt` says what it keeps. `specs/Tidies.antt` says how it
-//! is found in n log n steps: by the tallies of soqe_tally, which go on from a formula to its larger part.
+//! is found in n log n steps: by the tallies of soqe_number, which go on from a formula to its larger part.
 #![tactic(auto)]
 
 mod free_numbers;

@@ -5,14 +5,16 @@ ghost use Rattle.std.specs.Prelude.{◌≡◌, cond, eqb, true, IfOk, OnOk};
 ghost use Rattle.soqe_term.specs.Renumber.{renames};
 ghost use Rattle.soqe_form.specs.FreeVars.{free_occurrences, others};
 ghost use Rattle.soqe_tidy.specs.Numbers.{new_numbers};
-ghost use Rattle.soqe_tally.specs.Tallies.{Knows, Leaves, Finds, Gains};
+ghost use Rattle.soqe_number.specs.Tallies.{Knows, Leaves, Finds, Gains};
 ghost use Rattle.soqe_tidy.specs.Tidy.{tidy as tidy_form};
 ghost use Rattle.soqe_tidy.specs.Tidies.{Tidies, TidiesPart, TidiesBelow, IsOfLarger};
 
 use crate::free_numbers::{numbers_below, numbers_of};
 use soqe_form::Form;
-use soqe_tally::{Recent, Tally, Unkept, Uses, gather, least_beside};
-use soqe_term::{Mem, Nums, Renaming, Var, renumber_all_own, renumber_own};
+use soqe_number::{Recent, Tally, Unkept, least_beside};
+use soqe_uses::{Uses, gather};
+use soqe_number::{Mem, Nums};
+use soqe_term::{Renaming, Var, renumber_all_own, renumber_own};
 use sqlite_items::Boxed;
 use std::alloc::Global;
 

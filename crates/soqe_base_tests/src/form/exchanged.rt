@@ -2,7 +2,7 @@
 use super::TWO_BLOCKS;
 use crate::notation::{formula, is_spelled};
 use soqe_form::{put_beside, put_in};
-use soqe_term::Mem;
+use soqe_number::Mem;
 use std::alloc::Global;
 use std::test::Fail;
 

@@ -1,7 +1,7 @@
 //! Formulas that are the same and formulas that are not.
 use crate::notation::formula;
 use soqe_form::same;
-use soqe_term::Mem;
+use soqe_number::Mem;
 use std::alloc::Global;
 use std::test::Fail;
 

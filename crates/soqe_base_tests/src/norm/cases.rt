@@ -4,7 +4,7 @@ use crate::notation::{formula, spelled, write};
 use soqe_norm::case_list::{Case, CaseList};
 use soqe_norm::cases::cases;
 use soqe_norm::folding::{case_form, made_or, or_next};
-use soqe_term::{Mem, Nums};
+use soqe_number::{Mem, Nums};
 use std::alloc::Global;
 use std::test::Fail;
 

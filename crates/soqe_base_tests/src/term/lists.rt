@@ -1,5 +1,6 @@
 //! Lists are built, read and copied.
-use soqe_term::{NumLists, Nums, Sorts, Var, Vars};
+use soqe_number::{NumLists, Nums, Sorts};
+use soqe_term::{Var, Vars};
 use std::alloc::Global;
 
 fn holds_sorts(alloc: Global) -> bool {

@@ -1,5 +1,5 @@
 //! Small maps of fewer than eight numbers, of eight and of more, some set again.
-use soqe_term::SmallMap;
+use soqe_number::SmallMap;
 use std::alloc::Global;
 
 /// Numbers and their values that are set in turn, what the map then holds for some numbers, and how many entries it has.

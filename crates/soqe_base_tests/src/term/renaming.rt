@@ -1,5 +1,6 @@
 //! A term under other numbers.
-use soqe_term::{Mem, Renaming, Sym, Term, Terms, Var, renumber, renumber_own};
+use soqe_number::Mem;
+use soqe_term::{Renaming, Sym, Term, Terms, Var, renumber, renumber_own};
 use sqlite_items::Boxed;
 use std::alloc::Global;
 use std::test::Fail;

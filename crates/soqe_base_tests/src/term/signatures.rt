@@ -1,5 +1,7 @@
 //! Declarations and look-ups.
-use soqe_term::{DeclareFault, Kind, NameKind, Signature, Sorts, Var};
+use soqe_signature::{DeclareFault, Kind, NameKind, Signature};
+use soqe_number::Sorts;
+use soqe_term::Var;
 use std::alloc::Global;
 
 fn sorts(alloc: Global, sorts: &[u32]) -> Sorts {

@@ -1,6 +1,7 @@
 //! Terms are copied, compared, searched, and changed by substitution.
 use super::words::{copied, is_term, term, var};
-use soqe_term::{Mem, Term, Terms, Var, occurs, occurs_in_any, replace, replace_all, subst_term};
+use soqe_number::Mem;
+use soqe_term::{Term, Terms, Var, occurs, occurs_in_any, replace, replace_all, subst_term};
 use std::alloc::Global;
 
 fn is_copied(alloc: Global, word: &[u8]) -> bool {

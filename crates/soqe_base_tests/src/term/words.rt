@@ -2,7 +2,8 @@
 //! sort 1, and `w` has the number of `x` and the sort 1. `a`, `b` and `c` are constants, `c` of the sort 1; `f` has two
 //! arguments, `h` has two and the second is of the sort 1, `k` is the Skolem function 7 of one argument, of the sort 1.
 //! `F` is `f` with one argument alone, and `u` is a constant that isn't declared.
-use soqe_term::{Mem, Sym, Term, Terms, Var};
+use soqe_number::Mem;
+use soqe_term::{Sym, Term, Terms, Var};
 use sqlite_items::Boxed;
 use std::alloc::Global;
 

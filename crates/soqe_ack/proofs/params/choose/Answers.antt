@@ -1,5 +1,5 @@
 use Rattle.std.proofs.lemmas.List.{take_more}
-use Rattle.soqe_form.specs.Marks.{marked}
+use Rattle.soqe_number.specs.Marks.{marked}
 use Rattle.soqe_ack.proofs.ParameterChoice.{chosen_more}
 use Rattle.soqe_ack.proofs.params.choose.Goals as goal
 

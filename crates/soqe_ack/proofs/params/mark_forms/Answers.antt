@@ -1,6 +1,6 @@
 use Rattle.std.proofs.Common.{◌∙◌, subst}
 use Rattle.soqe_form.specs.declared.form.Form.{Form}
-use Rattle.soqe_form.specs.Marks.{Adds}
+use Rattle.soqe_number.specs.Marks.{Adds}
 use Rattle.soqe_form.specs.Mentions.{mentions}
 use Rattle.soqe_ack.proofs.ParameterChoice.{adds_form}
 use Rattle.soqe_ack.proofs.params.mark_forms.Goals as goal

@@ -1,6 +1,6 @@
 use Rattle.std.proofs.Common.{take}
 use Rattle.std.specs.List.{list_any}
-use Rattle.soqe_form.specs.Marks.{Adds}
+use Rattle.soqe_number.specs.Marks.{Adds}
 use Rattle.soqe_form.specs.Mentions.{mentions}
 use Rattle.soqe_ack.proofs.params.mark_forms.Given as goal
 

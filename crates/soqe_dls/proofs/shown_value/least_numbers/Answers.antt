@@ -1,6 +1,6 @@
 use Rattle.std.proofs.Common.{ℕ, List, ◌++◌, ◌∷◌, [], map, take, get_or, sym, subst}
 use Rattle.soqe_term.specs.declared.term.Var.{Var}
-use Rattle.soqe_form.specs.Marks.{marked}
+use Rattle.soqe_number.specs.Marks.{marked}
 use Rattle.soqe_ack.proofs.ParameterChoice.{AreChosen, chosen_more}
 use Rattle.soqe_dls.proofs.NewParameters.{sorts-more}
 use Rattle.soqe_dls.proofs.shown_value.least_numbers.Goals as goal

@@ -1,5 +1,5 @@
 use Rattle.std.proofs.Common.{map, take}
-use Rattle.soqe_form.specs.Marks.{marked}
+use Rattle.soqe_number.specs.Marks.{marked}
 use Rattle.soqe_ack.proofs.ParameterChoice.{AreChosen}
 use Rattle.soqe_dls.proofs.shown_value.least_numbers.Given as goal
 

@@ -1,10 +1,10 @@
 use Rattle.std.proofs.Common.{ℕ, Bool, not, ◌||◌, ◌&&◌, List, ◌∙◌, length, map, sym, ap, subst}
 use Rattle.std.proofs.lemmas.List.{length-map}
 use Rattle.soqe_term.specs.declared.term.Var.{Var}
-use Rattle.soqe_term.specs.Unused.{member}
+use Rattle.soqe_number.specs.Unused.{member}
 use Rattle.soqe_form.specs.Free.{free}
 use Rattle.soqe_form.specs.FreeVars.{is_among}
-use Rattle.soqe_form.specs.Marks.{marked}
+use Rattle.soqe_number.specs.Marks.{marked}
 use Rattle.soqe_form.specs.Mentions.{depth}
 use Rattle.soqe_subst.specs.Substitution.{sub}
 use Rattle.soqe_tidy.specs.Tidy.{tidy}

@@ -1,6 +1,6 @@
 use Rattle.std.proofs.Common.{ℕ, List, subst}
-use Rattle.soqe_term.specs.Unused.{member}
-use Rattle.soqe_form.specs.Marks.{Adds}
+use Rattle.soqe_number.specs.Unused.{member}
+use Rattle.soqe_number.specs.Marks.{Adds}
 use Rattle.soqe_dls.proofs.NewParameters.{used-marks}
 use Rattle.soqe_dls.proofs.shown_value.used_numbers.Goals as goal
 

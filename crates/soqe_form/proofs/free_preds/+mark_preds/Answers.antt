@@ -2,7 +2,7 @@ use Rattle.std.proofs.Common.{eqb, false, ◌||◌, ◌∙◌, ap, sym, ⊎_elim
 use Rattle.soqe_form.specs.Boxes.{boxes}
 use Rattle.soqe_form.specs.Free.{is_bound}
 use Rattle.soqe_form.specs.MentionsPreds.{mentions_pred}
-use Rattle.soqe_form.proofs.Marked.{adds-none, adds-one, adds-same, adds-two}
+use Rattle.soqe_number.proofs.Marked.{adds-none, adds-one, adds-same, adds-two}
 use Rattle.soqe_form.proofs.free_preds.+mark_preds.Goals as goal
 
 pub returns-in-True : goal.returns-in-True

@@ -1,8 +1,8 @@
 use Rattle.std.proofs.Common.{◌++◌, ◌∙◌, ap, sym, refl, ⊎_elim}
 use Rattle.soqe_form.specs.Boxes.{boxes}
 use Rattle.soqe_form.specs.FreeVars.{occurrences, free_occurrences}
-use Rattle.soqe_form.specs.Marks.{marked}
-use Rattle.soqe_term.specs.World.{changed}
+use Rattle.soqe_number.specs.Marks.{marked}
+use Rattle.soqe_number.specs.Updates.{changed}
 use Rattle.soqe_form.proofs.FreeVariables.{collects-both, collects-below}
 use Rattle.soqe_form.proofs.free_variables.+collect.Goals as goal
 

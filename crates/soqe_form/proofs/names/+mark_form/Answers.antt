@@ -2,7 +2,7 @@ use Rattle.std.proofs.Common.{eqb, false, ◌||◌, ◌∙◌, ap, sym, ⊎_elim
 use Rattle.soqe_term.specs.Occurs.{occurs, occurs_any}
 use Rattle.soqe_form.specs.Boxes.{boxes}
 use Rattle.soqe_form.specs.Mentions.{mentions}
-use Rattle.soqe_form.proofs.Marked.{adds-none, adds-one, adds-same, adds-two}
+use Rattle.soqe_number.proofs.Marked.{adds-none, adds-one, adds-same, adds-two}
 use Rattle.soqe_form.proofs.names.+mark_form.Goals as goal
 
 pub returns-in_ok-mark_term-in-Equal-2 : goal.returns-in_ok-mark_term-in-Equal-2

@@ -1,7 +1,7 @@
 use Rattle.std.proofs.Common.{◌||◌, ◌∙◌, ap, sym}
 use Rattle.soqe_term.specs.Boxes.{boxes}
 use Rattle.soqe_term.specs.Occurs.{occurs, occurs_any}
-use Rattle.soqe_form.proofs.Marked.{adds-two}
+use Rattle.soqe_number.proofs.Marked.{adds-two}
 use Rattle.soqe_form.proofs.names.+mark_term.Goals as goal
 
 pub mark_terms-returns-in_ok-mark_terms-in-Cons : goal.mark_terms-returns-in_ok-mark_terms-in-Cons

@@ -1,6 +1,6 @@
 use Rattle.std.proofs.Common.{take}
 use Rattle.soqe_form.specs.FreeVars.{is_among}
-use Rattle.soqe_form.specs.Marks.{Adds}
+use Rattle.soqe_number.specs.Marks.{Adds}
 use Rattle.soqe_form.proofs.names.mark_variables.Given as goal
 
 abbrev pub invariant-loop-variable : goal.invariant-loop-variable

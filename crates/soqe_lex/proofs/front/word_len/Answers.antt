@@ -1,6 +1,6 @@
 use Rattle.std.proofs.Common.{sym, arith, length}
 use Rattle.std.proofs.lemmas.List.Sums.{prefix_len_is}
-use Rattle.soqe_lex.specs.Lexical.{is_word}
+use Rattle.soqe_name.specs.Names.{is_word}
 use Rattle.soqe_lex.proofs.front.word_len.Goals as goal
 
 pub returns : goal.returns

@@ -1,5 +1,5 @@
 use Rattle.std.proofs.Common.{◌≡◌, ℕ, ◌<◌, get_or, true}
-use Rattle.soqe_lex.specs.Lexical.{is_word}
+use Rattle.soqe_name.specs.Names.{is_word}
 use Rattle.soqe_lex.proofs.front.word_len.Given as goal
 
 abbrev pub invariant-loop-n : goal.invariant-loop-n

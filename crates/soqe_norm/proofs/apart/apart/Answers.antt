@@ -1,6 +1,6 @@
 use Rattle.std.proofs.Common.{◌≡◌, length, ap, arith}
 use Rattle.std.proofs.lemmas.Result.{IfOk-weaker}
-use Rattle.soqe_term.specs.Unused.{member}
+use Rattle.soqe_number.specs.Unused.{member}
 use Rattle.soqe_term.specs.Renumber.{renames}
 use Rattle.soqe_norm.specs.Apart.{binders, taken_first}
 use Rattle.soqe_norm.proofs.Aparts.{choices-length}

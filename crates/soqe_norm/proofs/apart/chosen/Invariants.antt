@@ -1,5 +1,5 @@
 use Rattle.std.proofs.Common.{take}
-use Rattle.soqe_form.specs.Marks.{marked}
+use Rattle.soqe_number.specs.Marks.{marked}
 use Rattle.soqe_norm.proofs.Choosing.{Chosen}
 use Rattle.soqe_norm.proofs.apart.chosen.Given as goal
 

@@ -1,7 +1,7 @@
 use Rattle.std.proofs.Common.{◌≡◌, ℕ, Bool, List, ◌++◌, ◌∙◌, ap, subst}
 use Rattle.std.specs.Prelude.{IfOk}
-use Rattle.soqe_term.specs.Unused.{member}
-use Rattle.soqe_form.specs.Marks.{marked}
+use Rattle.soqe_number.specs.Unused.{member}
+use Rattle.soqe_number.specs.Marks.{marked}
 use Rattle.soqe_norm.specs.Apart.{binders, AreChoices, taken_first}
 use Rattle.soqe_norm.proofs.Choosing.{first_taken}
 use Rattle.soqe_norm.proofs.apart.new_numbers.Goals as goal

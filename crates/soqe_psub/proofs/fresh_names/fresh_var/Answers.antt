@@ -1,6 +1,6 @@
 use Rattle.std.proofs.Common.{◌∙◌, cond, true}
 use Rattle.soqe_form.specs.FreeVars.{is_among}
-use Rattle.soqe_form.specs.Marks.{marked}
+use Rattle.soqe_number.specs.Marks.{marked}
 use Rattle.soqe_psub.proofs.FreshNames.{least-var}
 use Rattle.soqe_psub.proofs.fresh_names.fresh_var.Goals as goal
 

@@ -1,6 +1,6 @@
 use Rattle.std.proofs.Common.{◌≡◌, cond, take}
 use Rattle.soqe_form.specs.FreeVars.{is_among}
-use Rattle.soqe_form.specs.Marks.{marked}
+use Rattle.soqe_number.specs.Marks.{marked}
 use Rattle.soqe_psub.proofs.fresh_names.mark_each.Given as goal
 
 abbrev pub invariant-loop-x : goal.invariant-loop-x

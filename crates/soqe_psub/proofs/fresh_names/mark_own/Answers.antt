@@ -1,6 +1,6 @@
 use Rattle.std.proofs.Common.{◌∙◌, cond, true, false}
 use Rattle.soqe_form.specs.FreeVars.{is_among}
-use Rattle.soqe_form.specs.Marks.{marked}
+use Rattle.soqe_number.specs.Marks.{marked}
 use Rattle.soqe_psub.proofs.FreshNames.{own-marks}
 use Rattle.soqe_psub.proofs.fresh_names.mark_own.Goals as goal
 

@@ -1,5 +1,5 @@
 use Rattle.std.proofs.Common.{◌∙◌, ap}
-use Rattle.soqe_form.specs.Counts.{counted}
+use Rattle.soqe_number.specs.Counts.{counted}
 use Rattle.soqe_simp.specs.Sides.{has_side, has_condition}
 use Rattle.soqe_simp.proofs.Knowing.{marks-anew}
 use Rattle.soqe_simp.proofs.known.learn.Goals as goal

@@ -1,5 +1,5 @@
 use Rattle.std.proofs.Common.{◌≡◌, take}
-use Rattle.soqe_form.specs.Marks.{marked}
+use Rattle.soqe_number.specs.Marks.{marked}
 use Rattle.soqe_form.specs.FreeVars.{is_among}
 use Rattle.soqe_simp.proofs.known.marks_of_free.Given as goal
 

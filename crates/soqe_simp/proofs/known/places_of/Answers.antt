@@ -1,6 +1,6 @@
 use Rattle.std.proofs.Common.{get_or, false}
 use Rattle.std.proofs.lemmas.Option.{slice_get-get_or}
-use Rattle.soqe_form.specs.Counts.{counted}
+use Rattle.soqe_number.specs.Counts.{counted}
 use Rattle.soqe_form.specs.declared.quantifiers.Quantifier.{Quantifier}
 use Rattle.soqe_simp.proofs.Knowing.{places-more}
 use Rattle.soqe_simp.proofs.known.places_of.Goals as goal

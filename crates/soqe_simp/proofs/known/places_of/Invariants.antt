@@ -1,4 +1,4 @@
-use Rattle.soqe_form.specs.Counts.{counted}
+use Rattle.soqe_number.specs.Counts.{counted}
 use Rattle.soqe_simp.specs.Known.{ArePlaces}
 use Rattle.soqe_simp.proofs.known.places_of.Given as goal
 

@@ -1,7 +1,7 @@
 use Rattle.std.proofs.Common.{◌∙◌, ap, sym}
 use Rattle.soqe_form.specs.Boxes.{boxes}
-use Rattle.soqe_form.specs.Counts.{counted}
-use Rattle.soqe_form.proofs.Marked.{adds-same}
+use Rattle.soqe_number.specs.Counts.{counted}
+use Rattle.soqe_number.proofs.Marked.{adds-same}
 use Rattle.soqe_simp.specs.Sides.{has_side, has_condition}
 use Rattle.soqe_simp.proofs.sides.+mark_conditions.Goals as goal
 

@@ -1,8 +1,8 @@
 use Rattle.std.proofs.Common.{◌||◌, ◌∙◌, ap, sym, subst}
 use Rattle.soqe_form.specs.Boxes.{boxes}
-use Rattle.soqe_form.specs.Counts.{counted}
-use Rattle.soqe_form.specs.Marks.{Adds}
-use Rattle.soqe_form.proofs.Marked.{adds-same, adds-two}
+use Rattle.soqe_number.specs.Counts.{counted}
+use Rattle.soqe_number.specs.Marks.{Adds}
+use Rattle.soqe_number.proofs.Marked.{adds-same, adds-two}
 use Rattle.soqe_simp.specs.Sides.{has_side}
 use Rattle.soqe_simp.proofs.sides.+mark_sides.Goals as goal
 

@@ -9,7 +9,7 @@ use Rattle.soqe_simp.proofs.Simplifies.{simplify-keeps}
 use Rattle.soqe_simp.proofs.Simple.{children-simplified-weigh, simplify-simple, simple-stays}
 use Rattle.soqe_simp.proofs.Settled.{children-made_simple, simplify-children, not-lighter, not-ready, not-simplified, imp-lighter, imp-ready, imp-simplified, below-default}
 use Rattle.soqe_simp.proofs.Finished.{settled-same, finished-simple, stepped-ready, stepped-lighter}
-use Rattle.soqe_form.specs.Counts.{counted}
+use Rattle.soqe_number.specs.Counts.{counted}
 use Rattle.soqe_form.specs.declared.quantifiers.Quantifier.{Quantifier}
 use Rattle.soqe_simp.specs.declared.stepping.Stepped.TheVariants.{Settled, Made}
 use Rattle.soqe_simp.specs.Stepped.{stepped}

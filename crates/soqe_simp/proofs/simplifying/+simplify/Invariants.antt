@@ -1,5 +1,5 @@
 use Rattle.std.proofs.Common.{◌≡◌, ◌≤◌, ◌+◌, ◌*◌, length}
-use Rattle.soqe_form.specs.Counts.{counted}
+use Rattle.soqe_number.specs.Counts.{counted}
 use Rattle.soqe_simp.specs.Weight.{weight}
 use Rattle.soqe_simp.specs.Ready.{IsSimple}
 use Rattle.soqe_simp.specs.Simplified.{simplify}

@@ -2,7 +2,7 @@ use Rattle.std.proofs.Common.{Some, None, sym, ap, ◌∙◌}
 use Rattle.std.proofs.lemmas.Result.{IfOk-weaker}
 use Rattle.std.specs.Option.{unwrap_or}
 use Rattle.soqe_term.specs.declared.term.Term.{Var as var}
-use Rattle.soqe_form.specs.Marks.{marked}
+use Rattle.soqe_number.specs.Marks.{marked}
 use Rattle.soqe_subst.specs.NewVars.{new_var}
 use Rattle.soqe_subst.proofs.Visibles.{term_of-renewed, term_of-own}
 use Rattle.soqe_subst.proofs.bound_terms.bind_var.Goals as goal

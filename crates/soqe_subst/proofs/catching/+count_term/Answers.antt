@@ -1,7 +1,7 @@
 use Rattle.std.proofs.Common.{◌++◌, ◌∙◌, ap, sym}
 use Rattle.soqe_term.specs.Boxes.{boxes}
 use Rattle.soqe_form.specs.FreeVars.{occurrences, all_occurrences}
-use Rattle.soqe_tally.proofs.UsesCounted.{counts-both}
+use Rattle.soqe_uses.proofs.UsesCounted.{counts-both}
 use Rattle.soqe_subst.proofs.catching.+count_term.Goals as goal
 
 pub count_terms-returns-in_ok-count_terms-in-Cons : goal.count_terms-returns-in_ok-count_terms-in-Cons

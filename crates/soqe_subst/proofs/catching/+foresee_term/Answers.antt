@@ -1,6 +1,6 @@
 use Rattle.std.proofs.Common.{◌+◌, ◌∙◌, ap, sym}
 use Rattle.soqe_term.specs.Boxes.{boxes}
-use Rattle.soqe_form.specs.Marks.{marked}
+use Rattle.soqe_number.specs.Marks.{marked}
 use Rattle.soqe_subst.specs.Substitution.{visible}
 use Rattle.soqe_subst.specs.Catching.{put_in_term, put_in_terms}
 use Rattle.soqe_subst.proofs.Foreseen.{counts-sum}

@@ -1,7 +1,7 @@
 use Rattle.std.proofs.Common.{◌∙◌, refl, sym, Some, None}
 use Rattle.std.proofs.lemmas.Result.{on_ok_weaker}
-use Rattle.soqe_form.specs.Marks.{marked}
-use Rattle.soqe_tally.proofs.UsesCounted.{counts-none}
+use Rattle.soqe_number.specs.Marks.{marked}
+use Rattle.soqe_uses.proofs.UsesCounted.{counts-none}
 use Rattle.soqe_subst.proofs.Foreseen.{foresees-hidden, foresees-shown}
 use Rattle.soqe_subst.proofs.catching.foresee_var.Goals as goal
 

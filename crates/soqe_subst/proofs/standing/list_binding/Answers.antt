@@ -1,5 +1,5 @@
 use Rattle.std.proofs.Common.{add-one}
-use Rattle.soqe_form.specs.Marks.{marked}
+use Rattle.soqe_number.specs.Marks.{marked}
 use Rattle.soqe_subst.proofs.StandingListed.{listed-take}
 use Rattle.soqe_subst.proofs.standing.list_binding.Goals as goal
 

@@ -1,5 +1,5 @@
 use Rattle.std.proofs.Common.{◌≡◌, ◌++◌, take}
-use Rattle.soqe_form.specs.Marks.{marked}
+use Rattle.soqe_number.specs.Marks.{marked}
 use Rattle.soqe_subst.specs.Standing.{binding_numbers}
 use Rattle.soqe_subst.specs.Substitution.{visible}
 use Rattle.soqe_subst.proofs.standing.list_binding.Given as goal

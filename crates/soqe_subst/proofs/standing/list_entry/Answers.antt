@@ -1,7 +1,7 @@
 use Rattle.std.proofs.Common.{◌∙◌, sym, Some, None}
 use Rattle.std.proofs.lemmas.List.{append-nil}
 use Rattle.std.proofs.lemmas.Result.{on_ok_weaker}
-use Rattle.soqe_form.specs.Marks.{marked}
+use Rattle.soqe_number.specs.Marks.{marked}
 use Rattle.soqe_subst.proofs.StandingListed.{entry-hidden, entry-shown, listed-more}
 use Rattle.soqe_subst.proofs.standing.list_entry.Goals as goal
 

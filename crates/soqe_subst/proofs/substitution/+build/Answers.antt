@@ -1,6 +1,6 @@
 use Rattle.std.proofs.Common.{refl, ap, ◌∙◌}
-use Rattle.soqe_term.specs.World.{changed}
-use Rattle.soqe_form.specs.Marks.{marked}
+use Rattle.soqe_number.specs.Updates.{changed}
+use Rattle.soqe_number.specs.Marks.{marked}
 use Rattle.soqe_subst.specs.declared.walk.Walk.{Walk}
 use Rattle.soqe_subst.specs.NewVars.{new_var}
 use Rattle.soqe_subst.proofs.Substituting.{substitutes-not, substitutes-all, substitutes-ex, substitutes-all2, substitutes-ex2}

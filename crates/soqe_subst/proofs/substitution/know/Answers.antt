@@ -1,6 +1,6 @@
 use Rattle.std.proofs.Common.{subst}
-use Rattle.soqe_tally.specs.Tallies.{IsRightAlways}
-use Rattle.soqe_tally.proofs.Tallied.{knows-now}
+use Rattle.soqe_number.specs.Tallies.{IsRightAlways}
+use Rattle.soqe_number.proofs.Tallied.{knows-now}
 use Rattle.soqe_subst.specs.Standing.{standing}
 use Rattle.soqe_subst.specs.Substitutes.{seen, left_of}
 use Rattle.soqe_subst.proofs.substitution.know.Goals as goal

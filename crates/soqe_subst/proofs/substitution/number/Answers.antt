@@ -1,4 +1,4 @@
-use Rattle.soqe_tally.proofs.Tallied.{finds-known}
+use Rattle.soqe_number.proofs.Tallied.{finds-known}
 use Rattle.soqe_subst.proofs.substitution.number.Goals as goal
 
 pub returns-clause-number : goal.returns-clause-number

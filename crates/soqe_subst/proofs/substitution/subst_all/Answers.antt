@@ -1,5 +1,5 @@
 use Rattle.std.proofs.Common.{sym, subst, ◌∙◌}
-use Rattle.soqe_tally.specs.Unkept.{Keeps}
+use Rattle.soqe_number.specs.Unkept.{Keeps}
 use Rattle.soqe_subst.specs.Catching.{AreCaught}
 use Rattle.soqe_subst.specs.Substitution.{visible}
 use Rattle.soqe_subst.proofs.SubLaws.{exact_of, truth_of, sorts_of}

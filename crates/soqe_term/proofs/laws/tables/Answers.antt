@@ -1,4 +1,4 @@
-use Rattle.soqe_term.proofs.Enumerations.{length-tabulated, entry-tabulated}
+use Rattle.soqe_number.proofs.Enumerations.{length-tabulated, entry-tabulated}
 use Rattle.soqe_term.proofs.laws.tables.Goals as goal
 
 pub returns-clause-whole : goal.returns-clause-whole

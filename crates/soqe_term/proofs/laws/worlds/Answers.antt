@@ -1,9 +1,5 @@
-use Rattle.soqe_term.proofs.Structures.{fits-world}
 use Rattle.soqe_term.proofs.Values.{value-below, value-match}
 use Rattle.soqe_term.proofs.laws.worlds.Goals as goal
-
-pub returns-clause-structures : goal.returns-clause-structures
-returns-clause-structures c = fits-world
 
 pub returns-clause-in_range : goal.returns-clause-in_range
 returns-clause-in_range c = value-below

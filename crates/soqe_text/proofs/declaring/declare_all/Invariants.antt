@@ -1,7 +1,7 @@
 use Rattle.std.proofs.Common.{◌≡◌, ◌<◌, map, drop}
 use Rattle.soqe_syntax.specs.Shapes.{declared_view}
-use Rattle.soqe_term.specs.declared.kinds.NameKind.TheVariants as numbering
-use Rattle.soqe_term.specs.Declarations.{count_of}
+use Rattle.soqe_signature.specs.declared.kinds.NameKind.TheVariants as numbering
+use Rattle.soqe_signature.specs.Declarations.{count_of}
 use Rattle.soqe_text.specs.Naming.{all_named_declared}
 use Rattle.soqe_text.proofs.declaring.declare_all.Given as goal
 

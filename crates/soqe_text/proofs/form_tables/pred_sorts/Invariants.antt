@@ -1,5 +1,5 @@
 use Rattle.std.proofs.Common.{◌≡◌, ◌-◌, drop, length}
-use Rattle.soqe_form.specs.Scope.{sorts_among}
+use Rattle.soqe_signature.specs.Scope.{sorts_among}
 use Rattle.soqe_text.specs.Lookups.{ByNumber, places}
 use Rattle.soqe_text.proofs.form_tables.pred_sorts.Given as goal
 

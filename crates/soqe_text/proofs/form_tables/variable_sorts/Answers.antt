@@ -1,5 +1,5 @@
 use Rattle.std.proofs.Common.{◌∙◌, ap, sym}
-use Rattle.soqe_form.specs.Scope.{sort_among}
+use Rattle.soqe_signature.specs.Scope.{sort_among}
 use Rattle.soqe_text.specs.Lookups.{ByNumber, entered}
 use Rattle.soqe_text.proofs.Fronts.{entered_none, none_before}
 use Rattle.soqe_text.proofs.form_tables.variable_sorts.Goals as goal

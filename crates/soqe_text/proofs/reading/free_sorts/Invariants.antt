@@ -1,5 +1,5 @@
 use Rattle.std.proofs.Common.{◌≡◌}
-use Rattle.soqe_term.specs.Declarations.{free_sort_of}
+use Rattle.soqe_signature.specs.Declarations.{free_sort_of}
 use Rattle.soqe_text.specs.Uses.{all_below}
 use Rattle.soqe_text.proofs.reading.free_sorts.Given as goal
 

@@ -2,8 +2,8 @@ use Rattle.std.proofs.Common.{◌∙◌, ap, subst}
 use Rattle.soqe_term.specs.Renumber.{renames}
 use Rattle.soqe_form.specs.FreeVars.{free_occurrences, others}
 use Rattle.soqe_tidy.specs.Numbers.{new_numbers}
-use Rattle.soqe_tally.specs.Tallies.{IsRightAlways}
-use Rattle.soqe_tally.proofs.Tallied.{knows-now}
+use Rattle.soqe_number.specs.Tallies.{IsRightAlways}
+use Rattle.soqe_number.proofs.Tallied.{knows-now}
 use Rattle.soqe_tidy.proofs.tidying.know.Goals as goal
 
 pub returns-in_ok-tally : goal.returns-in_ok-tally

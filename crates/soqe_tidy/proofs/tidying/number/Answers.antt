@@ -1,4 +1,4 @@
-use Rattle.soqe_tally.proofs.Tallied.{finds-known}
+use Rattle.soqe_number.proofs.Tallied.{finds-known}
 use Rattle.soqe_tidy.proofs.tidying.number.Goals as goal
 
 pub returns : goal.returns

@@ -1,7 +1,7 @@
 use Rattle.std.proofs.Common.{◌∙◌, ap, subst}
 use Rattle.soqe_tidy.specs.Tidy.{tidied}
-use Rattle.soqe_tally.specs.Uses.{AreOnTop}
-use Rattle.soqe_tally.proofs.Tallied.{unknown}
+use Rattle.soqe_uses.specs.Uses.{AreOnTop}
+use Rattle.soqe_number.proofs.Tallied.{unknown}
 use Rattle.soqe_tidy.proofs.tidying.tidy_owned.Goals as goal
 
 pub returns : goal.returns

@@ -1,9 +1,9 @@
 use Rattle.std.proofs.Common.{◌≡◌, ℕ, Bool, true, false, cond, eqb, List, Option, Some, None, refl, ◌∙◌, ap}
 use Rattle.std.specs.Map.{lookup}
 use Rattle.std.specs.Option.{unwrap_or}
-use Rattle.soqe_term.specs.World.{changed}
+use Rattle.soqe_number.specs.Updates.{changed}
 use Rattle.soqe_term.specs.declared.term.Var.{Var}
-use Rattle.soqe_term.proofs.Renumbered.{eqb_sym}
+use Rattle.soqe_number.proofs.Equalities.{eqb_sym}
 use Rattle.soqe_subst.specs.NewVars.{new_var}
 use Rattle.soqe_subst.proofs.new_vars.NewVars.set.Goals as goal
 

@@ -1,7 +1,7 @@
 use Rattle.std.proofs.Common.{◌∙◌, ap, ◌++◌, ◌∷◌, []}
 use Rattle.soqe_term.specs.Bindings.{bound_term}
 use Rattle.soqe_term.proofs.BoundStores.{fresh-front, slice_get-there}
-use Rattle.soqe_term.proofs.Declared.{take-push}
+use Rattle.soqe_number.proofs.Slices.{take-push}
 use Rattle.soqe_term.proofs.bindings.Binding.insert_copy.Goals as goal
 
 pub insert-requires : goal.insert-requires

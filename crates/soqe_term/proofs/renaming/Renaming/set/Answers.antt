@@ -1,5 +1,5 @@
 use Rattle.std.proofs.Common.{◌∙◌, ap}
-use Rattle.soqe_term.specs.World.{changed}
+use Rattle.soqe_number.specs.Updates.{changed}
 use Rattle.soqe_term.specs.Renumber.{renames}
 use Rattle.soqe_term.proofs.Renumbered.{renames-set}
 use Rattle.soqe_term.proofs.renaming.Renaming.set.Goals as goal

@@ -1,7 +1,0 @@
-use Rattle.std.proofs.Common.{ap}
-use Rattle.soqe_form.specs.Marks.{marked, as_marks}
-use Rattle.soqe_form.proofs.marks.Marks.new.Goals as goal
-
-pub returns : goal.returns
-unfolding marked
-returns c = ap (λ es. marked (as_marks es)) c.new.ensures

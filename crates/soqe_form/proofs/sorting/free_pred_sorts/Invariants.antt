@@ -1,6 +1,0 @@
-use Rattle.std.proofs.Common.{◌≡◌, drop}
-use Rattle.soqe_form.specs.Scope.{sorts_among}
-use Rattle.soqe_form.proofs.sorting.free_pred_sorts.Given as goal
-
-abbrev pub invariant-loop-p : goal.invariant-loop-p
-invariant-loop-p l = sorts_among l.preds l.num ≡ sorts_among (drop l.p-index l.preds) l.num

@@ -1,0 +1,11 @@
+pub mod Equalities
+pub mod Slices
+pub mod Choices
+pub mod Enumerations
+pub mod Pigeons
+pub mod SmallMaps
+pub mod Marked
+pub mod Counted
+pub mod FirstUnkept
+pub mod Ordered
+pub mod Tallied

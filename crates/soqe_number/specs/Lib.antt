@@ -1,0 +1,9 @@
+pub mod Updates
+pub mod Finite
+pub mod Ranges
+pub mod Unused
+pub mod SmallMap
+pub mod Marks
+pub mod Counts
+pub mod Unkept
+pub mod Tallies

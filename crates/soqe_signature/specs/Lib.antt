@@ -1,0 +1,9 @@
+pub mod Declarations
+pub mod Structures
+pub mod Places
+pub mod Declares
+pub mod Stored
+pub mod Samples
+pub mod SkolemSigs
+pub mod Scope
+pub mod Laws

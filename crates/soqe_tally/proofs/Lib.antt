@@ -1,4 +1,0 @@
-pub mod FirstUnkept
-pub mod Ordered
-pub mod Tallied
-pub mod UsesCounted

@@ -1,5 +1,0 @@
-use Rattle.soqe_form.proofs.Counted.{counted-nothing}
-use Rattle.soqe_tally.proofs.recent.Recent.new.Goals as goal
-
-pub returns : goal.returns
-returns c = counted-nothing 0 c.new.result c.new.ensures

@@ -1,7 +1,0 @@
-use Rattle.std.proofs.Common.{take}
-use Rattle.soqe_form.specs.Counts.{times}
-use Rattle.soqe_tally.specs.Tallies.{Gains}
-use Rattle.soqe_tally.proofs.tally.Tally.add_all.Given as goal
-
-abbrev pub invariant-loop-n : goal.invariant-loop-n
-invariant-loop-n l = Gains (λ m. times m (take l.n-index l.nums)) l.initial.self l.self

@@ -1,5 +1,0 @@
-use Rattle.soqe_tally.proofs.Tallied.{right-from_empty}
-use Rattle.soqe_tally.proofs.tally.Tally.counting.Goals as goal
-
-pub returns : goal.returns
-returns c = right-from_empty c.args.nums.now c.new-tally.result c.add_all.new.self c.new-tally.ensures c.in_ok-add_all.ensures

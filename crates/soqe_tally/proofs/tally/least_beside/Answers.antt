@@ -1,6 +1,0 @@
-use Rattle.soqe_tally.proofs.Tallied.{beside-right}
-use Rattle.soqe_tally.proofs.tally.least_beside.Goals as goal
-
-pub returns : goal.returns
-returns c =
-    beside-right c.args.kept.now c.args.nums.now c.in_ok-tally.tally c.least-num.result (c.in_ok-tally.ensures c.args.kept.now) c.least-num.ensures.least

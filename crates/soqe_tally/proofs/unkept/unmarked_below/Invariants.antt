@@ -1,8 +1,0 @@
-use Rattle.std.proofs.Common.{◌≡◌, ℕ, ◌<◌, false, length}
-use Rattle.soqe_form.specs.Marks.{marked}
-use Rattle.soqe_tally.specs.Unkept.{IsBefore, AreFirst}
-use Rattle.soqe_tally.proofs.unkept.unmarked_below.Given as goal
-
-abbrev pub invariant-loop-n : goal.invariant-loop-n
-invariant-loop-n l =
-    AreFirst (marked l.marks) l.others × ((k : ℕ) → k < l.n → marked l.marks k ≡ false → IsBefore l.others (length l.others) k)

@@ -1,4 +1,0 @@
-pub mod Numbers
-pub mod Uses
-pub mod Unkept
-pub mod Tallies

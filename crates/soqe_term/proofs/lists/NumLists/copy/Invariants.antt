@@ -1,5 +1,0 @@
-use Rattle.std.proofs.Common.{◌≡◌, take}
-use Rattle.soqe_term.proofs.lists.NumLists.copy.Given as goal
-
-abbrev pub invariant-loop-nums : goal.invariant-loop-nums
-invariant-loop-nums l = l.copy ≡ take l.nums-index l.self

@@ -1,8 +1,0 @@
-use Rattle.std.proofs.Common.{◌∙◌, sym}
-use Rattle.soqe_term.specs.SkolemSigs.{sorting_with}
-use Rattle.soqe_term.proofs.Borne.{not_well_sorted}
-use Rattle.soqe_term.proofs.sorts.sort_of.Goals as goal
-
-pub returns-else-is_sorted-clause-sorted : goal.returns-else-is_sorted-clause-sorted
-returns-else-is_sorted-clause-sorted c =
-    not_well_sorted (sorting_with c.args.sig.now c.args.skolems.now) c.args.term.now (sym c.is_sorted.ensures ∙ c.if-is_sorted.false)
