@@ -7,8 +7,7 @@ ghost use Rattle.soqe_form.specs.Mentions.{mentions};
 ghost use Rattle.soqe_ack.specs.Acked.{is_used, AreParameters};
 
 use soqe_form::{Form, Forms, mark_form, mark_variables};
-use soqe_number::{Marks, mark_numbers};
-use soqe_number::{Mem, Nums, Sorts};
+use soqe_number::{Marks, Mem, Nums, Sorts, mark_numbers};
 use soqe_term::{Var, Vars};
 use sqlite_items::Boxed;
 use std::alloc::Global;

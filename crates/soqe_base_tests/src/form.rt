@@ -5,9 +5,10 @@ mod sameness;
 mod variables;
 
 use crate::notation::{formula, is_spelled};
-use soqe_form::{Block, Form, Forms, Quantifier, copy_boxed, find_block, first_block, quantified, replace_at};
-use soqe_number::{Counts, sum_of_counts};
-use soqe_number::{Mem, Nums};
+use soqe_form::{
+    Block, Form, Forms, Quantifier, copy_boxed, find_block, first_block, quantified, replace_at,
+};
+use soqe_number::{Counts, Mem, Nums, sum_of_counts};
 use soqe_term::Var;
 use sqlite_items::Boxed;
 use std::alloc::Global;

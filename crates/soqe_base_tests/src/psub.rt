@@ -1,8 +1,8 @@
 //! Predicates replaced in formulas written by hand.
 use crate::notation::{formula, is_spelled};
 use soqe_form::Pred;
-use soqe_psub::pred_subst;
 use soqe_number::Mem;
+use soqe_psub::pred_subst;
 use soqe_term::{Var, Vars};
 use std::alloc::Global;
 use std::test::Fail;

@@ -1,8 +1,8 @@
 //! Rows of the simplifier and simple forms, of formulas written by hand.
 use crate::notation::formula;
 use soqe_form::same;
-use soqe_simp::{RowTable, row_names, simplify, simplify_owned, step};
 use soqe_number::Mem;
+use soqe_simp::{RowTable, row_names, simplify, simplify_owned, step};
 use std::alloc::Global;
 use std::test::Fail;
 

@@ -1,9 +1,8 @@
 //! Counts, tallies, numbers to keep out and uses of binders, by tables of cases.
 use soqe_form::{Form, make};
-use soqe_number::{Recent, Tally, Unkept, least_beside};
-use soqe_uses::{Uses, gather};
-use soqe_number::{Mem, Nums};
+use soqe_number::{Mem, Nums, Recent, Tally, Unkept, least_beside};
 use soqe_term::{Term, Var};
+use soqe_uses::{Uses, gather};
 use sqlite_items::Boxed;
 use std::alloc::Global;
 use std::test::Fail;

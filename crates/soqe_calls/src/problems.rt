@@ -7,9 +7,9 @@ ghost use Rattle.soqe_calls.specs.Problems.{declared, predicates as predicates_o
 
 use crate::shapes::shaped;
 use crate::words::Shape;
+use soqe_number::{Mem, Sorts};
 use soqe_show::write_number;
 use soqe_signature::{Kind, Signature};
-use soqe_number::{Mem, Sorts};
 use soqe_text::Problem;
 use std::alloc::{AllocError, Global};
 

@@ -10,8 +10,8 @@ ghost use Rattle.soqe_calls.specs.TextAnswers.{AnswersText, IsGoalSize};
 use crate::nodes::count_nodes;
 use crate::problems::problem;
 use crate::words::{Shape, TextCall};
-use soqe_show::show_problem;
 use soqe_number::Mem;
+use soqe_show::show_problem;
 use soqe_text::{Command, Problem, TextFault, one_spelled, read_problem};
 use std::alloc::{AllocError, Global};
 

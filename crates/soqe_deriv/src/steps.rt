@@ -8,8 +8,8 @@ ghost use Rattle.soqe_deriv.specs.Text.{parameter_text, sign_text, step_text, wi
 
 use soqe_ack::{DlsStep, Sign};
 use soqe_form::{Form, Pred};
-use soqe_show::{write_binder_sort, write_form, write_number, write_pred, write_var};
 use soqe_number::Mem;
+use soqe_show::{write_binder_sort, write_form, write_number, write_pred, write_var};
 use soqe_signature::Signature;
 use soqe_term::Var;
 

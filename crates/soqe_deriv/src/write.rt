@@ -9,8 +9,8 @@ ghost use Rattle.soqe_deriv.specs.Text.{declared_of, document_text, head_text, l
 use crate::steps::write_step;
 use crate::{Document, Line, Method, Stop};
 use soqe_form::{Form, Pred};
-use soqe_show::{write_form, write_number, write_pred, write_problem};
 use soqe_number::Mem;
+use soqe_show::{write_form, write_number, write_pred, write_problem};
 use soqe_signature::Signature;
 use soqe_text::Problem;
 use std::alloc::Global;

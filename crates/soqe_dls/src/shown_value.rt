@@ -10,11 +10,10 @@ ghost use Rattle.soqe_ack.specs.GuardLaws.{AreDistinct};
 ghost use Rattle.soqe_dls.specs.ShownCases.{IsShown, by_vars};
 
 use soqe_form::Form;
-use soqe_number::{Marks, mark_numbers};
+use soqe_number::{Marks, Mem, Nums, mark_numbers};
 use soqe_psub::mark_own;
 use soqe_subst::subst_all;
 use soqe_term::{Binding, Term, Var, Vars};
-use soqe_number::{Mem, Nums};
 use soqe_tidy::tidy_owned;
 use sqlite_items::Boxed;
 use std::alloc::Global;

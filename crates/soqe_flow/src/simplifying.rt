@@ -3,8 +3,8 @@ ghost use Rattle.std.specs.Prelude.{◌≡◌, map, IfOk};
 ghost use Rattle.soqe_deriv.specs.Valid.{kept as kept_of, simplified as simplified_of};
 
 use soqe_form::Form;
-use soqe_simp::simplify_owned;
 use soqe_number::{Mem, Nums};
+use soqe_simp::simplify_owned;
 use soqe_term::Var;
 use soqe_text::Problem;
 use soqe_tidy::tidy_owned;

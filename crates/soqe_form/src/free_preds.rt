@@ -8,8 +8,7 @@ ghost use Rattle.soqe_form.specs.MentionsPreds.{mentions_pred};
 ghost use Rattle.soqe_number.specs.Marks.{Adds};
 
 use crate::form::{Form, PVar, Pred};
-use soqe_number::Marks;
-use soqe_number::Mem;
+use soqe_number::{Marks, Mem};
 
 /// Whether two predicates are one.
 pub fn is_same_pred(p: &Pred, q: &Pred) -> bool

@@ -6,8 +6,7 @@ ghost use Rattle.soqe_form.specs.FreeVars.{occurrences, all_occurrences, free_oc
 ghost use Rattle.soqe_form.specs.Collects.{Collects};
 
 use crate::form::Form;
-use soqe_number::Marks;
-use soqe_number::Mem;
+use soqe_number::{Marks, Mem};
 use soqe_term::{Term, Terms, Var, Vars};
 use sqlite_items::Boxed;
 use std::alloc::Global;

@@ -9,8 +9,7 @@ ghost use Rattle.soqe_form.specs.Mentions.{mentions};
 ghost use Rattle.soqe_number.specs.Marks.{Adds};
 
 use crate::form::Form;
-use soqe_number::Marks;
-use soqe_number::Mem;
+use soqe_number::{Marks, Mem};
 use soqe_term::{Term, Terms, Var, occurs, occurs_in_any};
 
 /// Whether the variable with the number is free in the formula. It takes no memory.

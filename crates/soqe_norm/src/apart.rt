@@ -19,8 +19,7 @@ use soqe_form::make::{
     implication, negation,
 };
 use soqe_form::{Form, free_vars, mark_variables};
-use soqe_number::{Marks, mark_numbers};
-use soqe_number::{Mem, Nums};
+use soqe_number::{Marks, Mem, Nums, mark_numbers};
 use soqe_term::{Renaming, Term, Var, Vars, renumber as renumber_term, renumber_all};
 use sqlite_items::Boxed;
 use std::alloc::Global;

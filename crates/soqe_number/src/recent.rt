@@ -3,8 +3,7 @@ ghost use Rattle.std.specs.Prelude.{◌≡◌, ℕ, cond, eqb, OnOk};
 ghost use Rattle.soqe_number.specs.Updates.{changed};
 ghost use Rattle.soqe_number.specs.Counts.{counted, Counts as IsMore};
 
-use crate::{Counts, sum_of_counts};
-use crate::Mem;
+use crate::{Counts, Mem, sum_of_counts};
 use std::alloc::Global;
 use std::marker::Model;
 

@@ -7,8 +7,7 @@ ghost use Rattle.soqe_number.specs.Tallies.{IsNext, Gains, Loses, IsEmpty, IsLea
 
 use crate::num_order::NumOrder;
 use crate::unkept::Unkept;
-use crate::Counts;
-use crate::{Mem, Nums};
+use crate::{Counts, Mem, Nums};
 use std::alloc::Global;
 
 /// Counts of numbers. Of the numbers below the bound, those that are neither kept out nor counted are the freed ones; so the least

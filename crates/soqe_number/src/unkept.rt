@@ -5,8 +5,7 @@ ghost use Rattle.soqe_number.specs.Unused.{member};
 ghost use Rattle.soqe_number.specs.Marks.{marked};
 ghost use Rattle.soqe_number.specs.Unkept.{AreFirst, Keeps, IsLeastBeside};
 
-use crate::{Marks, mark_numbers};
-use crate::{Mem, Nums};
+use crate::{Marks, Mem, Nums, mark_numbers};
 use std::alloc::Global;
 
 /// Of how many numbers a list may be that is gone through again for each number that is tried.

@@ -7,8 +7,8 @@ ghost use Rattle.soqe_form.specs.FreePreds.{count};
 ghost use Rattle.soqe_psub.specs.PredSubst.{arguments};
 ghost use Rattle.soqe_psub.specs.Replaces.{is_known, with_first};
 
-use soqe_term::{Binding, Term, Terms, Var};
 use soqe_number::Mem;
+use soqe_term::{Binding, Term, Terms, Var};
 use std::alloc::Global;
 
 /// Whether there are so many terms.

@@ -7,8 +7,7 @@ ghost use Rattle.soqe_psub.specs.PredSubst.{fresh_var as least_var, fresh_pred a
 ghost use Rattle.soqe_psub.specs.Replaces.{is_own};
 
 use soqe_form::{Form, PVar, free_vars, mark_form, mark_preds};
-use soqe_number::Marks;
-use soqe_number::Mem;
+use soqe_number::{Marks, Mem};
 use soqe_term::{Var, Vars};
 use std::alloc::Global;
 

@@ -9,9 +9,8 @@ ghost use Rattle.soqe_psub.specs.Replaces.{HasMarks, Replaces, ReplacesBelow, Re
 use crate::arguments::{bind_arguments, has_count};
 use crate::fresh_names::{fresh_pred, fresh_var, mark_own};
 use soqe_form::{Form, PVar, Pred, copy_boxed, has_free_pred, is_hidden, is_same_pred};
-use soqe_number::Marks;
+use soqe_number::{Marks, Mem};
 use soqe_subst::{rename, rename_pred, subst_all};
-use soqe_number::Mem;
 use soqe_term::{Terms, Var, Vars, copy_term};
 use sqlite_items::Boxed;
 use std::alloc::Global;

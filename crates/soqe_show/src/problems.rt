@@ -8,8 +8,8 @@ ghost use Rattle.soqe_show.specs.Lines.{declaration_text, line_at};
 
 use crate::formulas::write_form;
 use crate::names::{write_sort, write_sorts};
-use soqe_signature::{Kind, Signature};
 use soqe_number::Mem;
+use soqe_signature::{Kind, Signature};
 use soqe_text::Problem;
 
 /// Writes a declaration on a line, and nothing where a text doesn't declare such a name.

@@ -1,8 +1,8 @@
 //! The places of declared names, by numbering.
 ghost use Rattle.std.specs.Prelude.{◌≡◌, OnOk, OnErr};
 
-use soqe_number::Mem;
 use crate::NameKind;
+use soqe_number::Mem;
 use std::alloc::Global;
 use std::marker::Model;
 

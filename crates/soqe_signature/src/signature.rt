@@ -4,10 +4,10 @@ ghost use Rattle.soqe_name.specs.Names.{is_ordinary};
 
 use crate::places::Places;
 use crate::{DeclareFault, Kind, NameKind};
-use soqe_number::{Mem, Sorts};
-use soqe_term::{Var, Vars};
 use indexmap::IndexMap;
 use soqe_name::is_ordinary_str;
+use soqe_number::{Mem, Sorts};
+use soqe_term::{Var, Vars};
 use std::alloc::{AllocError, Global};
 use std::marker::Model;
 use std::str::from_utf8;

@@ -6,9 +6,8 @@ ghost use Rattle.soqe_term.specs.Sorting.{over_var, over_bound, sorted_term, sor
 ghost use Rattle.soqe_form.specs.Sorted.{sorted, pred_sorts as sorts_of_pred};
 ghost use Rattle.soqe_signature.specs.Scope.{sort_among, sorts_among, sorting_for, known_outside, known_in};
 
-use soqe_form::{Form, PVar, Pred};
-use soqe_form::PVars;
 use crate::{Signature, SkolemSigs};
+use soqe_form::{Form, PVar, PVars, Pred};
 use soqe_number::Sorts;
 use soqe_term::{Sym, Term, Terms, Var, Vars};
 use sqlite_items::Boxed;

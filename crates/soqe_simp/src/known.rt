@@ -8,9 +8,8 @@ ghost use Rattle.soqe_form.specs.Free.{free as free_in};
 ghost use Rattle.soqe_simp.specs.Known.{ArePlaces, Learns, Passes};
 
 use crate::sides::{mark_conditions, mark_sides};
-use soqe_number::{Counts, Marks};
 use soqe_form::{Form, Quantifier, free_vars};
-use soqe_number::Mem;
+use soqe_number::{Counts, Marks, Mem};
 use std::alloc::Global;
 
 /// The places of the chain's quantifiers, and marks: on the numbers that are free in the formula (`free`), on those that an equation

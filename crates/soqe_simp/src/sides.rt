@@ -7,9 +7,8 @@ ghost use Rattle.soqe_number.specs.Marks.{Adds};
 ghost use Rattle.soqe_form.specs.declared.form.Form.{Ex, All};
 ghost use Rattle.soqe_simp.specs.Sides.{is_within, has_number, has_number_in, says, has_side, has_condition};
 
-use soqe_number::{Counts, Marks};
 use soqe_form::Form;
-use soqe_number::Mem;
+use soqe_number::{Counts, Marks, Mem};
 use soqe_term::{Term, Terms, Var};
 use sqlite_items::Boxed;
 

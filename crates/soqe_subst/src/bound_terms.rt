@@ -8,9 +8,8 @@ ghost use Rattle.soqe_subst.specs.NewVars.{new_var};
 ghost use Rattle.soqe_subst.specs.Substitutes.{BindsTerm, BindsTerms};
 
 use crate::new_vars::NewVars;
-use soqe_number::Marks;
+use soqe_number::{Marks, Mem};
 use soqe_term::{Binding, Term, Terms, Var};
-use soqe_number::Mem;
 use sqlite_items::Boxed;
 use std::alloc::Global;
 

@@ -12,10 +12,9 @@ ghost use Rattle.soqe_subst.specs.Standing.{term_numbers, terms_numbers};
 ghost use Rattle.soqe_subst.specs.Substitution.{visible};
 ghost use Rattle.soqe_subst.specs.Catching.{put_by, put_in_term, put_in_terms, Foresees};
 
-use soqe_number::{Counts, Marks};
 use soqe_form::Form;
+use soqe_number::{Counts, Marks, Mem};
 use soqe_term::{Binding, Term, Terms, Var};
-use soqe_number::Mem;
 use sqlite_items::Boxed;
 use std::alloc::Global;
 use std::marker::Model;

@@ -13,10 +13,8 @@ ghost use Rattle.soqe_subst.specs.Substitution.{visible};
 
 use crate::new_vars::NewVars;
 use soqe_form::Form;
-use soqe_number::Marks;
-use soqe_number::{Tally, Unkept};
+use soqe_number::{Marks, Mem, Nums, Tally, Unkept};
 use soqe_term::{Binding, Term, Terms, Var};
-use soqe_number::{Mem, Nums};
 use sqlite_items::Boxed;
 use std::alloc::Global;
 

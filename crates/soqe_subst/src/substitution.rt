@@ -23,12 +23,10 @@ use crate::catching::{Catches, foresee};
 use crate::new_vars::NewVars;
 use crate::standing::{binding_numbers, form_numbers, leave_binder, standing_numbers};
 use crate::walk::{Found, Walk};
-use soqe_number::{Counts, Marks};
 use soqe_form::Form;
-use soqe_number::{Recent, Tally, Unkept, least_beside};
-use soqe_uses::{Uses, gather};
+use soqe_number::{Counts, Marks, Mem, Nums, Recent, Tally, Unkept, least_beside};
 use soqe_term::{Binding, Term, Var};
-use soqe_number::{Mem, Nums};
+use soqe_uses::{Uses, gather};
 use sqlite_items::Boxed;
 use std::alloc::Global;
 

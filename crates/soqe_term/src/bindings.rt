@@ -2,9 +2,9 @@
 ghost use Rattle.std.specs.Prelude.{◌≡◌, ◌++◌, ◌∷◌, [], ◌<◌, ◌+◌, take, length, slice_get, Some, None, IfOk, OnOk, OnErr, MatchOption};
 ghost use Rattle.soqe_term.specs.Bindings.{bound_term, HasDistinctVars};
 
-use soqe_number::Mem;
 use crate::{Term, Var};
 use indexmap::IndexMap;
+use soqe_number::Mem;
 use std::alloc::Global;
 use std::marker::Model;
 

@@ -5,8 +5,8 @@ ghost use Rattle.std.specs.Prelude.{◌≡◌, IfOk, OnOk};
 ghost use Rattle.soqe_number.specs.Updates.{changed};
 ghost use Rattle.soqe_term.specs.Renumber.{renames, numbered, renumbered, all_renumbered};
 
-use soqe_number::{Mem, SmallMap};
 use crate::{Term, Terms, Var};
+use soqe_number::{Mem, SmallMap};
 use sqlite_items::Boxed;
 use std::alloc::Global;
 use std::marker::Model;

@@ -14,9 +14,9 @@ use crate::new_names::{NameFault, declare};
 use crate::refused::Refused;
 use crate::scope::Scope;
 use crate::spans::text;
-use soqe_syntax::{Item, Span, Spans};
-use soqe_signature::{Kind, Signature};
 use soqe_number::{Mem, Sorts};
+use soqe_signature::{Kind, Signature};
+use soqe_syntax::{Item, Span, Spans};
 use std::alloc::Global;
 
 /// The number of a sort by its name; a name that is no sort's counts as `obj`.

@@ -10,8 +10,8 @@ ghost use Rattle.soqe_text.specs.Meanings.{found_by_tag, tag_found, tagged_found
 ghost use Rattle.soqe_text.specs.Lookups.{found_by, symbol_by, found_of, IsNamedBy};
 
 use crate::number::number;
-use soqe_signature::{Kind, NameKind, Signature, SkolemSigs};
 use soqe_number::Sorts;
+use soqe_signature::{Kind, NameKind, Signature, SkolemSigs};
 
 /// By what names are looked up.
 #[derive(Drop)]

@@ -13,8 +13,8 @@ use crate::new_names::NameFault;
 use crate::refused::Refused;
 use crate::scope::Scope;
 use crate::spans::text;
-use soqe_syntax::{Equated, Expr, Exprs, PredicateBinder, Shape, Span, Spans, VariableBinder};
 use soqe_signature::Signature;
+use soqe_syntax::{Equated, Expr, Exprs, PredicateBinder, Shape, Span, Spans, VariableBinder};
 
 /// Whether a name may be used.
 fn is_usable(look: &Lookup, vars: &Scope, preds: &Scope, name: &[u8]) -> bool

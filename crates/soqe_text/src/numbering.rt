@@ -20,10 +20,10 @@ use crate::spans::text;
 use crate::terms::{numbered_atom, numbered_term};
 use crate::uses::{no_sort_in, num_of, wrong_in_atom, wrong_in_equation, wrong_sort};
 use soqe_form::{Form, PVar, make};
+use soqe_number::{Mem, Sorts};
 use soqe_syntax::{
     Equated, Expr, Operator, PredicateBinder, Quantifier, Shape, Span, VariableBinder,
 };
-use soqe_number::{Mem, Sorts};
 use soqe_term::Var;
 use sqlite_items::Boxed;
 use std::alloc::Global;

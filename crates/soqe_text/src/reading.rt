@@ -26,10 +26,10 @@ use crate::refused::Refused;
 use crate::scope::Scope;
 use crate::uses::{no_sort, no_sort_in};
 use soqe_form::Form;
-use soqe_parse::{ProblemShape, ShapeError, read_problem_shape};
-use soqe_syntax::{Item, Shape, Span, Spans};
 use soqe_number::{Mem, Sorts};
+use soqe_parse::{ProblemShape, ShapeError, read_problem_shape};
 use soqe_signature::{NameKind, Signature};
+use soqe_syntax::{Item, Shape, Span, Spans};
 use sqlite_items::Boxed;
 use std::alloc::Global;
 

@@ -8,8 +8,8 @@ ghost use Rattle.soqe_text.specs.Uses.{head, num_of_by, is_no_sort, no_sort_by, 
 use crate::known::{Known, known_of};
 use crate::lookup::{Lookup, Meaning, found};
 use crate::spans::text;
-use soqe_syntax::{Expr, Exprs, Span, Spans};
 use soqe_number::Sorts;
+use soqe_syntax::{Expr, Exprs, Span, Spans};
 
 /// The name at the head of a term or an atom.
 fn head(term: &Expr) -> Span

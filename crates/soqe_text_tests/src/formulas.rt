@@ -1,7 +1,7 @@
 //! Tables of texts of formulas by themselves, with what the reader says of them.
 use soqe_form::{Form, PVar, PVars};
-use soqe_signature::{Signature, SkolemSig, SkolemSigs};
 use soqe_number::Sorts;
+use soqe_signature::{Signature, SkolemSig, SkolemSigs};
 use soqe_term::{Sym, Term, Var, Vars};
 use soqe_text::{
     Command, Problem, TextFault, one_form_spelled, read_form, read_problem, spelled_form_sorted,

@@ -6,9 +6,9 @@ use soqe_form::make::{
     implication, negation,
 };
 use soqe_form::{Form, PVar, Pred};
+use soqe_number::{Mem, Sorts};
 use soqe_show::{show_form, show_problem, show_term};
 use soqe_signature::{Kind, Signature};
-use soqe_number::{Mem, Sorts};
 use soqe_term::{Sym, Term, Terms, Var};
 use soqe_text::Problem;
 use sqlite_items::Boxed;

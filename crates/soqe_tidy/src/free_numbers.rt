@@ -7,8 +7,7 @@ ghost use Rattle.soqe_form.specs.FreeVars.{occurrences, all_occurrences, free_oc
 ghost use Rattle.soqe_tidy.specs.Numbers.{is_bound, new_numbers, Lists};
 
 use soqe_form::Form;
-use soqe_number::Marks;
-use soqe_number::{Mem, Nums};
+use soqe_number::{Marks, Mem, Nums};
 use soqe_term::{Renaming, Term, Terms, Var};
 use sqlite_items::Boxed;
 use std::alloc::Global;

@@ -11,10 +11,9 @@ ghost use Rattle.soqe_tidy.specs.Tidies.{Tidies, TidiesPart, TidiesBelow, IsOfLa
 
 use crate::free_numbers::{numbers_below, numbers_of};
 use soqe_form::Form;
-use soqe_number::{Recent, Tally, Unkept, least_beside};
-use soqe_uses::{Uses, gather};
-use soqe_number::{Mem, Nums};
+use soqe_number::{Mem, Nums, Recent, Tally, Unkept, least_beside};
 use soqe_term::{Renaming, Var, renumber_all_own, renumber_own};
+use soqe_uses::{Uses, gather};
 use sqlite_items::Boxed;
 use std::alloc::Global;
 

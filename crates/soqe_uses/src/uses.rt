@@ -8,9 +8,8 @@ ghost use Rattle.soqe_uses.specs.Numbers.{numbers};
 ghost use Rattle.soqe_number.specs.Counts.{times, Counts as IsMore};
 ghost use Rattle.soqe_uses.specs.Uses.{top, under, Gathers};
 
-use soqe_number::Recent;
 use soqe_form::Form;
-use soqe_number::Mem;
+use soqe_number::{Mem, Recent};
 use soqe_term::{Term, Terms, Var};
 use sqlite_items::Boxed;
 use std::alloc::Global;

@@ -1,7 +1,7 @@
 //! Free predicates of a formula written by hand.
 use crate::notation::formula;
-use soqe_number::Marks;
 use soqe_form::{Pred, has_free_pred, mark_preds};
+use soqe_number::Marks;
 use std::test::Fail;
 
 #[test]

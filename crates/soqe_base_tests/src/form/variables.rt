@@ -1,9 +1,8 @@
 //! Free variables, marks and sorts of formulas written by hand.
 use crate::notation::formula;
-use soqe_number::{Marks, mark_numbers};
 use soqe_form::{PVars, free_vars, mark_form, mark_term, mark_variables};
-use soqe_signature::well_sorted;
-use soqe_signature::{Signature, SkolemSigs};
+use soqe_number::{Marks, mark_numbers};
+use soqe_signature::{Signature, SkolemSigs, well_sorted};
 use soqe_term::{Term, Var, Vars};
 use std::test::Fail;
 

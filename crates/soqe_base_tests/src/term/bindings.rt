@@ -1,7 +1,7 @@
 //! Bindings as words: pairs of a variable and a term, a letter each.
 use super::words::{copied, is_term, term, var};
-use soqe_term::{Binding, Term, Var, match_term};
 use soqe_number::{Mem, Nums};
+use soqe_term::{Binding, Term, Var, match_term};
 use std::alloc::Global;
 
 fn binds(binding: &mut Binding, x: Var, by: Term) -> bool {

@@ -1,6 +1,6 @@
 //! Declarations and look-ups.
-use soqe_signature::{DeclareFault, Kind, NameKind, Signature};
 use soqe_number::Sorts;
+use soqe_signature::{DeclareFault, Kind, NameKind, Signature};
 use soqe_term::Var;
 use std::alloc::Global;
 

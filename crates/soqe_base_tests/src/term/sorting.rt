@@ -1,7 +1,7 @@
 //! Sorts of terms over a signature with `a`, `b` and `f` of the sort 0, `c` and `h`, and the Skolem function `k`.
 use super::words::term;
-use soqe_signature::{Kind, Signature, SkolemSig, SkolemSigs, sort_of};
 use soqe_number::Sorts;
+use soqe_signature::{Kind, Signature, SkolemSig, SkolemSigs, sort_of};
 use std::alloc::Global;
 
 fn sorts(alloc: Global, sorts: &[u32]) -> Sorts {
